@@ -1,0 +1,5 @@
+pub mod Cutting
+pub mod Admission
+pub mod Laws
+pub mod Example
+pub mod Layout

@@ -1,0 +1,11 @@
+pub mod Sorted
+pub mod Counts
+pub mod Packets
+pub mod Keeping
+pub mod Entries
+pub mod Units
+pub mod Handing
+pub mod Survival
+pub mod Delivery
+pub mod Broadcast
+pub mod Expected
