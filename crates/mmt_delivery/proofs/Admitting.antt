@@ -4,8 +4,8 @@ use Rattle.std.specs.List.{list_any, list_all, flat_map}
 use Rattle.std.proofs.lemmas.Bool.Decides.{nat_tests}
 use Rattle.std.proofs.lemmas.Bool.{cases_eq, eq-eqb, eqb-true, eqb-false, ne_eqb, and_parts, and_from, or_cases, or_right, or_left, cases_Bool, ltb-true, leb-true, lt-ltb, le-ltb, le-leb, lt-leb, cases_lt, cases_order}
 use Rattle.std.proofs.lemmas.List.Sums.{sum_by-cons}
+use Rattle.std.specs.List.{AllByRecursion}
 use Rattle.mmt_delivery.proofs.Finding.{IsApart}
-use Rattle.mmt_delivery.proofs.Known.{known}
 use Rattle.mmt_delivery.proofs.Premises.{IsNaming, IsPlaying, IsRightCopy, IsSound}
 use Rattle.mmt_delivery.specs.Admission.{IsAdmitted, IsTimelyCopy, IsWellFormed, first_at}
 use Rattle.mmt_delivery.specs.Layout.{numbers}
@@ -33,17 +33,17 @@ pub apart : (broadcast : Broadcast) (r : Params) → IsAdmitted broadcast r → 
 apart broadcast r admitted m n lm ln ids numbers =
     ⊎_elim (λ (e : m ≡ n). e)
     (λ (o : (m < n) ⊎ (n < m)). ⊎_elim
-      (λ (lt : m < n). absurd (never m n lm ln lt ids numbers))
-      (λ (gt : n < m). absurd (never n m ln lm gt (sym ids) (sym numbers))) o)
+    (λ (lt : m < n). absurd (never m n lm ln lt ids numbers))
+    (λ (gt : n < m). absurd (never n m ln lm gt (sym ids) (sym numbers))) o)
     (cases_order m n)
   where
     never : (m n : ℕ) → m < length broadcast.cast.packets.sent → n < length broadcast.cast.packets.sent → m < n
         → (get_or broadcast.cast.packets.sent m no_packet).packet_id ≡ (get_or broadcast.cast.packets.sent n no_packet).packet_id → (get_or broadcast.cast.packets.sent m no_packet).number ≡ (get_or broadcast.cast.packets.sent n no_packet).number → ⊥
     never m n lm ln lt ids numbers =
         let packet_id : ℕ = (get_or broadcast.cast.packets.sent n no_packet).packet_id in
-        let g = count-grows (λ (p : Sent). p.packet_id == packet_id) broadcast.cast.packets m n no_packet lt (omega arith) (eq-eqb (get_or broadcast.cast.packets.sent m no_packet).packet_id packet_id ids) in
+        let g = count-grows (λ (p : Sent). p.packet_id == packet_id) broadcast.cast.packets.sent m n no_packet lt (omega arith) (eq-eqb (get_or broadcast.cast.packets.sent m no_packet).packet_id packet_id ids) in
         let a = admitted.numbered m lm in
-        let a' : (get_or broadcast.cast.packets.sent m no_packet).number ≡ count_by (λ (p : Sent). p.packet_id == packet_id) (take m broadcast.cast.packets) = a ∙ ap (λ i. count_by (λ (p : Sent). p.packet_id == i) (take m broadcast.cast.packets)) ids in
+        let a' : (get_or broadcast.cast.packets.sent m no_packet).number ≡ count_by (λ (p : Sent). p.packet_id == packet_id) (take m broadcast.cast.packets.sent) = a ∙ ap (λ i. count_by (λ (p : Sent). p.packet_id == i) (take m broadcast.cast.packets.sent)) ids in
         omega (arith, g, a', admitted.numbered n ln, numbers)
 
 pub sound : (broadcast : Broadcast) (r k : Params) → IsAdmitted broadcast r → k.window ≡ r.window → k.delay ≡ r.delay → r.bound ≤ k.bound → IsSound broadcast.cast.packets k
@@ -84,24 +84,24 @@ naming broadcast r k names_in admitted formed w d =
     record {
       one_mpu = formed.one_mpu;
       right =
-        each-and (IsTimelyCopy broadcast.cast r) (λ c. 0 < length c.members) (λ c. AllByRecursion (λ n. n < length broadcast.cast.packets.sent) c.members) (λ c. AllByRecursion (λ m. m < length broadcast.cast.mpus) c.names) (IsRightCopy broadcast.cast k) broadcast.cast.copies
-        (λ c timely some of known.
+          each-and (IsTimelyCopy broadcast.cast r) (λ c. 0 < length c.members) (λ c. AllByRecursion (λ n. n < length broadcast.cast.packets.sent) c.members) (λ c. AllByRecursion (λ m. m < length broadcast.cast.mpus) c.names) (IsRightCopy broadcast.cast k) broadcast.cast.copies
+          (λ c timely some of known.
           record {
             some = some;
             of = of;
             known = known;
             not_late = each-from (λ n. AllByRecursion (λ m. sent_at broadcast.cast.packets.sent n + k.delay < due_at broadcast.cast m) c.names) c.members
-              (λ n mem. each-weaker (λ m. (last_at broadcast.cast c.members + r.delay < due_at broadcast.cast m) × (due_at broadcast.cast m ≤ first_at broadcast.cast c.members + 2 ^ 30)) (λ m. sent_at broadcast.cast.packets.sent n + k.delay < due_at broadcast.cast m) c.names
+                (λ n mem. each-weaker (λ m. (last_at broadcast.cast c.members + r.delay < due_at broadcast.cast m) × (due_at broadcast.cast m ≤ first_at broadcast.cast c.members + 2 ^ 30)) (λ m. sent_at broadcast.cast.packets.sent n + k.delay < due_at broadcast.cast m) c.names
                 (λ m e. (let b = between broadcast.cast c.members n mem in omega (arith, e.0, b.1, d))) timely.early);
             soon = each-from (λ n. AllByRecursion (λ m. due_at broadcast.cast m ≤ sent_at broadcast.cast.packets.sent n + 2 ^ 30) c.names) c.members
-              (λ n mem. each-weaker (λ m. (last_at broadcast.cast c.members + r.delay < due_at broadcast.cast m) × (due_at broadcast.cast m ≤ first_at broadcast.cast c.members + 2 ^ 30)) (λ m. due_at broadcast.cast m ≤ sent_at broadcast.cast.packets.sent n + 2 ^ 30) c.names
+                (λ n mem. each-weaker (λ m. (last_at broadcast.cast c.members + r.delay < due_at broadcast.cast m) × (due_at broadcast.cast m ≤ first_at broadcast.cast c.members + 2 ^ 30)) (λ m. due_at broadcast.cast m ≤ sent_at broadcast.cast.packets.sent n + 2 ^ 30) c.names
                 (λ m e. (let b = between broadcast.cast c.members n mem in omega (arith, e.1, b.0))) timely.early);
             together = each-from (λ n. AllByRecursion (λ j. sent_at broadcast.cast.packets.sent n + k.delay < sent_at broadcast.cast.packets.sent j + k.window) c.members) c.members
-              (λ n mem. each-from (λ j. sent_at broadcast.cast.packets.sent n + k.delay < sent_at broadcast.cast.packets.sent j + k.window) c.members
+                (λ n mem. each-from (λ j. sent_at broadcast.cast.packets.sent n + k.delay < sent_at broadcast.cast.packets.sent j + k.window) c.members
                 (λ j mem'. (let b = between broadcast.cast c.members n mem in let b' = between broadcast.cast c.members j mem' in omega (arith, b.1, b'.0, timely.short, d, w))));
             few = timely.few;
           })
-        admitted.copies formed.copy_some formed.copy_of_cast formed.copy_names;
+          admitted.copies formed.copy_some formed.copy_of_cast formed.copy_names;
     }
 
 -- units that are told apart
@@ -117,33 +117,33 @@ unfolding order_numbers presentation_of
 playing broadcast r k names_in admitted formed w d =
     record {
       right = λ u l.
-        (let t = admitted.timely u l in
-        record {
-          known = formed.unit_mpu u l;
-          some = formed.unit_some u l;
-          of = formed.unit_of_cast u l;
-          same_id = formed.unit_id u l;
-          same_mpu = formed.unit_number u l;
-          not_late = each-from (λ n. sent_at broadcast.cast.packets.sent n + k.delay < due_of_unit broadcast u) (unit_of broadcast u).members
-            (λ n m. (let b = between broadcast.cast (unit_of broadcast u).members n m in omega (arith, t.0, b.1, d)));
-          not_gone = each-from (λ n. due_of_unit broadcast u ≤ sent_at broadcast.cast.packets.sent n + k.window) (unit_of broadcast u).members
-            (λ n m. (let b = between broadcast.cast (unit_of broadcast u).members n m in omega (arith, t.1, b.0, w)));
-        });
+          (let t = admitted.timely u l in
+          record {
+            known = formed.unit_mpu u l;
+            some = formed.unit_some u l;
+            of = formed.unit_of_cast u l;
+            same_id = formed.unit_id u l;
+            same_mpu = formed.unit_number u l;
+            not_late = each-from (λ n. sent_at broadcast.cast.packets.sent n + k.delay < due_of_unit broadcast u) (unit_of broadcast u).members
+                (λ n m. (let b = between broadcast.cast (unit_of broadcast u).members n m in omega (arith, t.0, b.1, d)));
+            not_gone = each-from (λ n. due_of_unit broadcast u ≤ sent_at broadcast.cast.packets.sent n + k.window) (unit_of broadcast u).members
+                (λ n m. (let b = between broadcast.cast (unit_of broadcast u).members n m in omega (arith, t.1, b.0, w)));
+          });
       apart = λ u v lu lv e.
-        (let a = (unit_of broadcast u).value in
-        let b = (unit_of broadcast v).value in
-        let ids : a.packet_id ≡ b.packet_id = cc in
-        let mpus : a.mpu ≡ b.mpu = cc in
-        let keys : key_numbers a.key ++ a.number ∷ a.place ∷ [] ≡ key_numbers b.key ++ b.number ∷ b.place ∷ [] = cc in
-        let same_key : key_numbers a.key ≡ key_numbers b.key = keys-append a.key b.key (a.number ∷ a.place ∷ []) (b.number ∷ b.place ∷ []) keys in
-        let m : (unit_of broadcast u).mpu ≡ (unit_of broadcast v).mpu =
+          (let a = (unit_of broadcast u).value in
+          let b = (unit_of broadcast v).value in
+          let ids : a.packet_id ≡ b.packet_id = cc in
+          let mpus : a.mpu ≡ b.mpu = cc in
+          let keys : key_numbers a.key ++ a.number ∷ a.place ∷ [] ≡ key_numbers b.key ++ b.number ∷ b.place ∷ [] = cc in
+          let same_key : key_numbers a.key ≡ key_numbers b.key = keys-append a.key b.key (a.number ∷ a.place ∷ []) (b.number ∷ b.place ∷ []) keys in
+          let m : (unit_of broadcast u).mpu ≡ (unit_of broadcast v).mpu =
           formed.one_mpu (unit_of broadcast u).mpu (unit_of broadcast v).mpu (formed.unit_mpu u lu) (formed.unit_mpu v lv)
           (sym (formed.unit_id u lu) ∙ (ids ∙ formed.unit_id v lv)) (sym (formed.unit_number u lu) ∙ (mpus ∙ formed.unit_number v lv)) in
-        ⊎_elim (λ (s : u ≡ v). s)
-        (λ (o : (u < v) ⊎ (v < u)). ⊎_elim
+          ⊎_elim (λ (s : u ≡ v). s)
+          (λ (o : (u < v) ⊎ (v < u)). ⊎_elim
           (λ (lt : u < v). absurd (never (key_numbers a.key) (key_numbers b.key) same_key (admitted.keys u v lt lv m)))
           (λ (gt : v < u). absurd (never (key_numbers b.key) (key_numbers a.key) (sym same_key) (admitted.keys v u gt lu (sym m)))) o)
-        (cases_order u v));
+          (cases_order u v));
     }
   where
     never : (xs ys : List ℕ) → xs ≡ ys → precedes xs ys ≡ true → ⊥

@@ -67,9 +67,11 @@ history broadcast (t ∷ ds) after o near =
     front_of : (p : SentPackets) (ds after : List ℕ) → AreOf p.sent (ds ++ after) → AreOf p.sent ds
     front_of p [] after o = tt
     front_of p (d ∷ ds) after o = (o.0, front_of p ds after o.1)
+
     front_near : (p : SentPackets) (l : ℕ) (ds after : List ℕ) → NearAfter p.sent l (ds ++ after) → NearAfter p.sent l ds
     front_near p l [] after n = tt
     front_near p l (d ∷ ds) after n = (n.0, n.1, front_near p (max l (sent_at p.sent d)) ds after n.2)
+
     first : (p : SentPackets) (t : ℕ) (ds : List ℕ) → NearAfter p.sent (sent_at p.sent t) ds → NearAfter p.sent (latest p.sent (sent_at p.sent t) (t ∷ [])) ds
     first p t ds n = subst (λ l. NearAfter p.sent l ds) (sym (latest-one p t)) n
 
@@ -198,7 +200,7 @@ newest-push xs x = onto-push xs x []
 
 fate_at : (broadcast : Broadcast) (r k : Params) (start d : ℕ) (older : List ℕ) → IsReceiver r k → IsSound broadcast.cast.packets k → IsHistory broadcast start (d ∷ older) → (t : Bool) → nat_le (latest broadcast.cast.packets.sent start (d ∷ older)) (sent_at broadcast.cast.packets.sent d + k.delay) ≡ t
     → cond t (cond (list_any (λ j. j == d) (within broadcast.cast.packets k (latest broadcast.cast.packets.sent start (d ∷ older)) (held broadcast.cast.packets k start older))) Outcome.Repeat Outcome.Stored) Outcome.Late
-      ≡ cond t (cond (survives broadcast.cast.packets.sent k.delay older d) Outcome.Repeat Outcome.Stored) Outcome.Late
+    ≡ cond t (cond (survives broadcast.cast.packets.sent k.delay older d) Outcome.Repeat Outcome.Stored) Outcome.Late
 unfolding within
 fate_at broadcast r k start d older receiver sound h true e =
     let p : SentPackets = broadcast.cast.packets in
@@ -210,11 +212,11 @@ fate_at broadcast r k start d older receiver sound h true e =
     let w : nat_lt now (sent_at p.sent d + k.window) ≡ true = lt-ltb now (sent_at p.sent d + k.window) (omega (arith, sound.short_delay)) in
     let w0 : nat_lt L (sent_at p.sent d + k.window) ≡ true = lt-ltb L (sent_at p.sent d + k.window) (omega (arith, sound.short_delay)) in
     let count : occurrences d (filter (λ j. nat_lt now (sent_at p.sent j + k.window)) (held p k start older)) ≡ as_number (s && true) =
-      occurrences-filter d (λ j. nat_lt now (sent_at p.sent j + k.window)) (held p k start older)
-      ∙ (ap (λ b. cond b (occurrences d (held p k start older)) 0) w
-      ∙ (occurrences-held p k start older d sound.short_delay (begins-older p start d older h.begins) ∙ ap (λ b. as_number (s && b)) w0)) in
+    occurrences-filter d (λ j. nat_lt now (sent_at p.sent j + k.window)) (held p k start older)
+    ∙ (ap (λ b. cond b (occurrences d (held p k start older)) 0) w
+    ∙ (occurrences-held p k start older d sound.short_delay (begins-older p start d older h.begins) ∙ ap (λ b. as_number (s && b)) w0)) in
     let any : list_any (λ j. j == d) (filter (λ j. nat_lt now (sent_at p.sent j + k.window)) (held p k start older)) ≡ s =
-      any-occurrences d (filter (λ j. nat_lt now (sent_at p.sent j + k.window)) (held p k start older)) ∙ (ap (nat_lt 0) count ∙ back s) in
+    any-occurrences d (filter (λ j. nat_lt now (sent_at p.sent j + k.window)) (held p k start older)) ∙ (ap (nat_lt 0) count ∙ back s) in
     ap (λ b. cond b Outcome.Repeat Outcome.Stored) any
   where
     back : (b : Bool) → nat_lt 0 (as_number (b && true)) ≡ b

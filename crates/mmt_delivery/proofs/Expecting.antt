@@ -81,8 +81,8 @@ unfolding is_expected is_ready is_named
 expected-early broadcast delay start n older u b early =
     ap (λ x. is_complete broadcast.cast delay (n ∷ older) (unit_of broadcast u).members && x)
     (any-same (λ c. member (unit_of broadcast u).mpu c.names && is_counted broadcast.cast delay (n ∷ older) c.members (due_of_unit broadcast u))
-      (λ c. member (unit_of broadcast u).mpu c.names && is_complete broadcast.cast delay (n ∷ older) c.members) broadcast.cast.copies
-      (λ c. ap (λ x. member (unit_of broadcast u).mpu c.names && x) (counted-early broadcast.cast delay start n (due_of_unit broadcast u) older c.members b early)))
+    (λ c. member (unit_of broadcast u).mpu c.names && is_complete broadcast.cast delay (n ∷ older) c.members) broadcast.cast.copies
+    (λ c. ap (λ x. member (unit_of broadcast u).mpu c.names && x) (counted-early broadcast.cast delay start n (due_of_unit broadcast u) older c.members b early)))
 
 -- after the due tick nothing of the unit survives anew
 pub complete-over : (broadcast : Broadcast) (r : Params) (start n : ℕ) (older : List ℕ) (u : ℕ) → Begins broadcast.cast.packets.sent start (n ∷ older) → IsRightUnit broadcast r u → due_of_unit broadcast u ≤ latest broadcast.cast.packets.sent start (n ∷ older)
@@ -92,12 +92,12 @@ complete-over broadcast r start n older u b right over =
     let p : SentPackets = broadcast.cast.packets in
     let ms : List ℕ = (unit_of broadcast u).members in
     let same : (k : ℕ) → member k ms ≡ true → survives p.sent r.delay (n ∷ older) k ≡ survives p.sent r.delay older k =
-      λ k m. survives-step p r.delay start n older k b
-        ∙ absorb (n == k) (nat_le (latest p.sent start (n ∷ older)) (sent_at p.sent n + r.delay)) (survives p.sent r.delay older k)
-          (λ e t. absurd (let s = eqb-true n k e in
-            let l = leb-true (latest p.sent start (n ∷ older)) (sent_at p.sent n + r.delay) t in
-            let late : sent_at p.sent k + r.delay < due_of_unit broadcast u = each-at (λ n. sent_at p.sent n + r.delay < due_of_unit broadcast u) ms k right.not_late m in
-            omega (arith, l, late, ap (sent_at p.sent) s))) in
+    λ k m. survives-step p r.delay start n older k b
+    ∙ absorb (n == k) (nat_le (latest p.sent start (n ∷ older)) (sent_at p.sent n + r.delay)) (survives p.sent r.delay older k)
+    (λ e t. absurd (let s = eqb-true n k e in
+    let l = leb-true (latest p.sent start (n ∷ older)) (sent_at p.sent n + r.delay) t in
+    let late : sent_at p.sent k + r.delay < due_of_unit broadcast u = each-at (λ n. sent_at p.sent n + r.delay < due_of_unit broadcast u) ms k right.not_late m in
+    omega (arith, l, late, ap (sent_at p.sent) s))) in
     same_tests (list_all (survives p.sent r.delay (n ∷ older)) ms) (list_all (survives p.sent r.delay older) ms)
     (λ h. all-from (survives p.sent r.delay older) ms (λ k m. sym (same k m) ∙ all-at (survives p.sent r.delay (n ∷ older)) ms k h m))
     (λ h. all-from (survives p.sent r.delay (n ∷ older)) ms (λ k m. same k m ∙ all-at (survives p.sent r.delay older) ms k h m))
@@ -108,8 +108,8 @@ unfolding is_expected
 expected-over broadcast r start n older u b right over =
     ap₂ (λ x y. x && y) (complete-over broadcast r start n older u b right over)
     (any-same (λ c. member (unit_of broadcast u).mpu c.names && is_counted broadcast.cast r.delay (n ∷ older) c.members (due_of_unit broadcast u))
-      (λ c. member (unit_of broadcast u).mpu c.names && is_counted broadcast.cast r.delay older c.members (due_of_unit broadcast u)) broadcast.cast.copies
-      (λ c. ap (λ x. member (unit_of broadcast u).mpu c.names && x) (counted-over broadcast.cast r.delay start n (due_of_unit broadcast u) older c.members b over)))
+    (λ c. member (unit_of broadcast u).mpu c.names && is_counted broadcast.cast r.delay older c.members (due_of_unit broadcast u)) broadcast.cast.copies
+    (λ c. ap (λ x. member (unit_of broadcast u).mpu c.names && x) (counted-over broadcast.cast r.delay start n (due_of_unit broadcast u) older c.members b over)))
 
 -- nothing is expected of no packets
 pub complete-none : (broadcast : Broadcast) (r : Params) (u : ℕ) → IsRightUnit broadcast r u → is_complete broadcast.cast r.delay [] (unit_of broadcast u).members ≡ false

@@ -3,9 +3,8 @@ use Rattle.std.proofs.Common.{◌≡◌, ℕ, ◌+◌, ◌-◌, ◌*◌, ◌%◌
 use Rattle.std.specs.List.{list_any, list_all, flat_map}
 use Rattle.std.proofs.lemmas.Bool.Decides.{nat_tests}
 use Rattle.std.proofs.lemmas.Bool.{cases_eq, eq-eqb, eqb-true, ne_eqb, and_parts, and_from, or_cases, or_right, or_left, cases_Bool, ltb-true, leb-true, lt-ltb, le-ltb, le-leb, lt-leb, cases_lt}
-use Rattle.mmt_delivery.proofs.Admitting.{apart}
+use Rattle.std.specs.List.{AllByRecursion}
 use Rattle.mmt_delivery.proofs.Kept.{as_number-true, below_from_times}
-use Rattle.mmt_delivery.proofs.Laying.{cut}
 use Rattle.mmt_delivery.proofs.Learning.{length-map', ones}
 use Rattle.mmt_delivery.proofs.Loads.{sum_by-occurrences, upto, upto-le}
 use Rattle.mmt_delivery.proofs.Outs.{IsFinding}
@@ -34,17 +33,18 @@ packet_at-map packets (j ∷ ks) packet_id k n apart below at =
     let a : ℕ = (get_or packets.sent j no_packet).packet_id in
     let b : ℕ = (get_or packets.sent j no_packet).number in
     let test : ((a == packet_id) && (b == k)) ≡ (j == n) =
-      ⊎_elim
-      (λ (s : j ≡ n). ap₂ (λ x y. x && y)
-        (eq-eqb a packet_id (ap (λ i. (get_or packets.sent i no_packet).packet_id) s ∙ at.has_id))
-        (eq-eqb b k (ap (λ i. (get_or packets.sent i no_packet).number) s ∙ at.has_number)) ∙ sym (eq-eqb j n s))
-      (λ (ne : j ≡ n → ⊥). different a packet_id b k (λ x y. ne (apart j n (below j (omega (arith, ap as_number (eq-eqb j j refl)))) at.of (x ∙ sym at.has_id) (y ∙ sym at.has_number))) ∙ sym (ne_eqb j n ne))
-      (cases_eq j n) in
+    ⊎_elim
+    (λ (s : j ≡ n). ap₂ (λ x y. x && y)
+    (eq-eqb a packet_id (ap (λ i. (get_or packets.sent i no_packet).packet_id) s ∙ at.has_id))
+    (eq-eqb b k (ap (λ i. (get_or packets.sent i no_packet).number) s ∙ at.has_number)) ∙ sym (eq-eqb j n s))
+    (λ (ne : j ≡ n → ⊥). different a packet_id b k (λ x y. ne (apart j n (below j (omega (arith, ap as_number (eq-eqb j j refl)))) at.of (x ∙ sym at.has_id) (y ∙ sym at.has_number))) ∙ sym (ne_eqb j n ne))
+    (cases_eq j n) in
     ap (λ t. cond t (Some (heard_of packets j)) (packet_at (map (heard_of packets) ks) packet_id k)) test
     ∙ go (j == n) refl (packet_at-map packets ks packet_id k n apart (λ i l. below i (omega arith)) at)
   where
     different : (a b c d : ℕ) → (a ≡ b → c ≡ d → ⊥) → ((a == b) && (c == d)) ≡ false
     different a b c d h = grind (arith, nat_tests)
+
     go : (t : Bool) → (j == n) ≡ t → packet_at (map (heard_of packets) ks) packet_id k ≡ cond (list_any (λ i. i == n) ks) (Some (heard_of packets n)) None
         → cond t (Some (heard_of packets j)) (packet_at (map (heard_of packets) ks) packet_id k) ≡ cond (t || list_any (λ i. i == n) ks) (Some (heard_of packets n)) None
     go true e ih = ap (λ i. Some (heard_of packets i)) (eqb-true j n e)
@@ -97,22 +97,27 @@ rest_of_run-chain packets ks link packet_id zero k (n ∷ m ∷ ns) (b ∷ parts
 rest_of_run-chain packets ks link packet_id (suc fuel) k (n ∷ m ∷ ns) (b ∷ parts) apart below chain =
     ap (λ o. after_link (link_at link o) (rest_of_run link (map (heard_of packets) ks) packet_id fuel (next_number k))) (packet_at-map packets ks packet_id k n apart below chain.0)
     ∙ inner_case link (heard_of packets n) b parts (rest_of_run link (map (heard_of packets) ks) packet_id fuel (next_number k)) (member m ks && list_all (λ j. member j ks) ns) (length ns) fuel
-      (link_of packets link n (Link.Inner b) chain.1) (rest_of_run-chain packets ks link packet_id fuel (next_number k) (m ∷ ns) parts apart below chain.2) (member n ks)
+    (link_of packets link n (Link.Inner b) chain.1) (rest_of_run-chain packets ks link packet_id fuel (next_number k) (m ∷ ns) parts apart below chain.2) (member n ks)
 
 -- distinct places that are all kept are no more than the kept ones
 pub enough : (n : ℕ) (ks rest : List ℕ) → ((j : ℕ) → 0 < occurrences j ks → j < n) → ((j : ℕ) → occurrences j rest ≤ 1) → list_all (λ j. member j ks) rest ≡ true → length rest ≤ length ks
 enough n ks rest below once all =
     let some : (j : ℕ) → 0 < occurrences j rest → 0 < occurrences j ks =
-      λ j l. ltb-true 0 (occurrences j ks) (sym (member-occurrences j ks) ∙ all-at (λ j. member j ks) rest j all (member-occurrences j rest ∙ lt-ltb 0 (occurrences j rest) l)) in
+    λ j l. ltb-true 0 (occurrences j ks) (sym (member-occurrences j ks) ∙ all-at (λ j. member j ks) rest j all (member-occurrences j rest ∙ lt-ltb 0 (occurrences j rest) l)) in
     let le : upto (λ j. occurrences j rest * 1) n ≤ upto (λ j. occurrences j ks * 1) n =
-      upto-le (λ j. occurrences j rest * 1) (λ j. occurrences j ks * 1) n
-      (λ j l. ⊎_elim
-        (λ (in' : 0 < occurrences j rest). omega (arith, once j, some j in'))
-        (λ (out : occurrences j rest ≤ 0). omega arith)
-        (cases_lt 0 (occurrences j rest))) in
-    omega (arith, ones rest, ones ks, le,
+    upto-le (λ j. occurrences j rest * 1) (λ j. occurrences j ks * 1) n
+    (λ j l. ⊎_elim
+    (λ (in' : 0 < occurrences j rest). omega (arith, once j, some j in'))
+    (λ (out : occurrences j rest ≤ 0). omega arith)
+    (cases_lt 0 (occurrences j rest))) in
+    omega (
+      arith,
+      ones rest,
+      ones ks,
+      le,
       sum_by-occurrences (λ k. 1) n rest (below_from_times n rest (λ j l. below j (some j l))),
-      sum_by-occurrences (λ k. 1) n ks (below_from_times n ks below))
+      sum_by-occurrences (λ k. 1) n ks (below_from_times n ks below),
+    )
 
 -- a rest_of_run of distinct packets among the kept ones
 pub rest_of_run-whole : (packets : SentPackets) (ks : List ℕ) (link : Payload → Link) (packet_id k : ℕ) (rest : List ℕ) (parts : List (List ℕ)) → IsApart packets → ((j : ℕ) → 0 < occurrences j ks → j < length packets.sent)
@@ -121,7 +126,7 @@ pub rest_of_run-whole : (packets : SentPackets) (ks : List ℕ) (link : Payload 
 rest_of_run-whole packets ks link packet_id k rest parts apart below chain once =
     rest_of_run-chain packets ks link packet_id (length (map (heard_of packets) ks)) k rest parts apart below chain
     ∙ ap (λ t. cond t (Some parts) None)
-      (go (list_all (λ j. member j ks) rest) (λ all. le-leb (length rest) (length (map (heard_of packets) ks)) (omega (arith, enough (length packets.sent) ks rest below once all, length-map' (heard_of packets) ks))))
+    (go (list_all (λ j. member j ks) rest) (λ all. le-leb (length rest) (length (map (heard_of packets) ks)) (omega (arith, enough (length packets.sent) ks rest below once all, length-map' (heard_of packets) ks))))
   where
     go : (a : Bool) → (a ≡ true → nat_le (length rest) (length (map (heard_of packets) ks)) ≡ true) → (a && nat_le (length rest) (length (map (heard_of packets) ks))) ≡ a
     go true h = h refl
@@ -155,7 +160,7 @@ unfolding units_by
 found_by broadcast starts ks n apart cut below kept us is lu (Payload.Media parts.Whole timed mpu data_units) b =
     let q : ℕ → Bool = λ u. list_all (λ k. member k ks) (unit_of broadcast u).members in
     sym b.0 ∙ ap (map (λ u. (unit_of broadcast u).value)) (sym (filter-all q us (each-weaker (λ u. (unit_of broadcast u).members ≡ n ∷ []) (λ u. q u ≡ true) us
-      (λ u e. ap (list_all (λ k. member k ks)) e ∙ ap (λ x. x && true) kept) b.1)))
+    (λ u e. ap (list_all (λ k. member k ks)) e ∙ ap (λ x. x && true) kept) b.1)))
 found_by broadcast starts ks n apart cut below kept us is lu (Payload.Media parts.First timed mpu []) b = rw b refl
 found_by broadcast starts ks n apart cut below kept us is lu (Payload.Media parts.First timed mpu (data_unit ∷ [])) b =
     let u : ℕ = b.0 in
@@ -168,7 +173,7 @@ found_by broadcast starts ks n apart cut below kept us is lu (Payload.Media part
     ap (joined_unit h mpu data_unit) (rest_of_run-whole broadcast.cast.packets ks (media_link timed mpu) h.packet_id (next_number h.number) f.rest f.parts apart below f.chain once)
     ∙ (one broadcast n u data_unit mpu f.parts f.value A
     ∙ sym (ap (λ l. map (λ u. (unit_of broadcast u).value) (filter (λ u. list_all (λ k. member k ks) (unit_of broadcast u).members) l)) b.1
-      ∙ ap (λ x. map (λ u. (unit_of broadcast u).value) (cond x (u ∷ []) [])) q))
+    ∙ ap (λ x. map (λ u. (unit_of broadcast u).value) (cond x (u ∷ []) [])) q))
 found_by broadcast starts ks n apart cut below kept us is lu (Payload.Media parts.First timed mpu (p ∷ q ∷ data_units)) b = rw b refl
 found_by broadcast starts ks n apart cut below kept us is lu (Payload.Media parts.Middle timed mpu data_units) b = rw b refl
 found_by broadcast starts ks n apart cut below kept us is lu (Payload.Media parts.Last timed mpu data_units) b = rw b refl
@@ -194,8 +199,8 @@ found_from broadcast starts ks apart cut below (n ∷ js) sub =
     let ln : n < length broadcast.cast.packets.sent = below n some in
     let q : ℕ → Bool = λ u. list_all (λ k. member k ks) (unit_of broadcast u).members in
     let e = found_by broadcast starts ks n apart cut below (member-occurrences n ks ∙ lt-ltb 0 (occurrences n ks) some) (starts n) refl
-      (λ u l. ltb-true u (length broadcast.units) (and_parts (nat_lt u (length broadcast.units)) (n == first_of (unit_of broadcast u).members) (as_number-true (nat_lt u (length broadcast.units) && (n == first_of (unit_of broadcast u).members)) (omega (arith, l, cut.once u n ln)))).0)
-      (payload_of broadcast.cast.packets n) (cut.begins n ln) in
+    (λ u l. ltb-true u (length broadcast.units) (and_parts (nat_lt u (length broadcast.units)) (n == first_of (unit_of broadcast u).members) (as_number-true (nat_lt u (length broadcast.units) && (n == first_of (unit_of broadcast u).members)) (omega (arith, l, cut.once u n ln)))).0)
+    (payload_of broadcast.cast.packets n) (cut.begins n ln) in
     ap₂ (λ a b. a ++ b) (ap (units_by (map (heard_of broadcast.cast.packets) ks) (heard_of broadcast.cast.packets n)) (payload-heard broadcast.cast.packets n) ∙ e) (found_from broadcast starts ks apart cut below js (λ j l. sub j (omega arith)))
     ∙ sym (map-append (λ u. (unit_of broadcast u).value) (filter q (starts n)) (flat_map (found_in broadcast starts ks) js))
 
@@ -203,7 +208,7 @@ found_from broadcast starts ks apart cut below (n ∷ js) sub =
 occurrences-found_from : (broadcast : Broadcast) (starts : ℕ → List ℕ) (ks : List ℕ) (u : ℕ) → IsCut broadcast starts → ((j : ℕ) → 0 < occurrences j ks → j < length broadcast.cast.packets.sent)
     → (js : List ℕ) → ((j : ℕ) → 0 < occurrences j js → 0 < occurrences j ks)
     → occurrences u (flat_map (found_in broadcast starts ks) js)
-      ≡ cond (list_all (λ k. member k ks) (unit_of broadcast u).members) (as_number (nat_lt u (length broadcast.units)) * occurrences (first_of (unit_of broadcast u).members) js) 0
+    ≡ cond (list_all (λ k. member k ks) (unit_of broadcast u).members) (as_number (nat_lt u (length broadcast.units)) * occurrences (first_of (unit_of broadcast u).members) js) 0
 unfolding found_in
 occurrences-found_from broadcast starts ks u cut below [] sub = go (list_all (λ k. member k ks) (unit_of broadcast u).members)
   where
@@ -236,6 +241,7 @@ occurrences-found broadcast starts ks u cut once below some =
     at_first : (ms : List ℕ) → 0 < length ms → list_all (λ k. member k ks) ms ≡ true → member (first_of ms) ks ≡ true
     at_first [] l a = absurd (omega arith)
     at_first (m ∷ ms) l a = (and_parts (member m ks) (list_all (λ k. member k ks) ms) a).0
+
     go : (l : Bool) → nat_lt u (length broadcast.units) ≡ l → (a : Bool) → list_all (λ k. member k ks) (unit_of broadcast u).members ≡ a → cond a (as_number l * occurrences (first_of (unit_of broadcast u).members) ks) 0 ≡ as_number (l && a)
     go true e true f =
         let m = at_first (unit_of broadcast u).members (some (ltb-true u (length broadcast.units) e)) f in

@@ -5,8 +5,6 @@ use Rattle.std.proofs.lemmas.Bool.Decides.{nat_tests}
 use Rattle.std.proofs.lemmas.Bool.{cases_eq, eq-eqb, eqb-true, ne_eqb, and_parts, and_from, or_cases, or_right, or_left, cases_Bool, ltb-true, leb-true, lt-ltb, le-ltb, le-leb, lt-leb, cases_lt}
 use Rattle.mmt_base.proofs.TickLemmas.{is_after-low, is_passed-low}
 use Rattle.mmt_base.specs.Ticks.{due_of, is_after, is_passed, low}
-use Rattle.mmt_delivery.proofs.Admitting.{naming}
-use Rattle.mmt_delivery.proofs.Finding.{found}
 use Rattle.mmt_delivery.proofs.Held.{begins-older, held}
 use Rattle.mmt_delivery.proofs.Kept.{as_number-true, clock-low, filter-map, held_facts, kept-held, times_of_filter}
 use Rattle.mmt_delivery.proofs.Known.{known, occurrences-known}
@@ -18,12 +16,13 @@ use Rattle.mmt_delivery.proofs.Tests.{each-at, member-occurrences}
 use Rattle.mmt_model.specs.Broadcast.{Broadcast, due_at, due_of_unit, entry_of, presentation_of, unit_of}
 use Rattle.mmt_model.specs.Counts.{as_number, member, occurrences}
 use Rattle.mmt_model.specs.Delivery.{reach}
-use Rattle.mmt_model.specs.Entries.{entries}
+use Rattle.mmt_model.specs.Entries.{Entry, entries}
 use Rattle.mmt_model.specs.Expected.{expected, is_expected, is_named, places}
 use Rattle.mmt_model.specs.Handing.{Reading, final, handed, is_presented_before, named_units, out, presentations_by, time_of}
 use Rattle.mmt_model.specs.Keeping.{kept}
 use Rattle.mmt_model.specs.Sorted.{sort_by}
-use Rattle.mmt_model.specs.Survival.{AreOf, heard_of, latest, sent_at}
+use Rattle.mmt_model.specs.Survival.{AreOf, SentPackets, heard_of, latest, sent_at}
+use Rattle.mmt_model.specs.Units.{MediaUnit}
 use Rattle.mmt_model.specs.declared.programmes.Params.{Params}
 
 -- the entry of a unit's MPU, and its time
@@ -36,22 +35,23 @@ presentations_by-map broadcast r (k ∷ xs) u naming right below =
     let v : MediaUnit = (unit_of broadcast u).value in
     let e : Entry = entry_of broadcast.cast k in
     let test : ((e.packet_id == v.packet_id) && (e.mpu == v.mpu)) ≡ (k == m) =
-      ⊎_elim
-      (λ (s : k ≡ m). ap₂ (λ x y. x && y)
-        (eq-eqb e.packet_id v.packet_id (ap (λ i. (entry_of broadcast.cast i).packet_id) s ∙ sym right.same_id))
-        (eq-eqb e.mpu v.mpu (ap (λ i. (entry_of broadcast.cast i).mpu) s ∙ sym right.same_mpu)) ∙ sym (eq-eqb k m s))
-      (λ (ne : k ≡ m → ⊥). different e.packet_id v.packet_id e.mpu v.mpu
-          (λ a b. ne (naming.one_mpu k m (below k (omega (arith, ap as_number (eq-eqb k k refl)))) right.known (a ∙ right.same_id) (b ∙ right.same_mpu))) ∙ sym (ne_eqb k m ne))
-      (cases_eq k m) in
+    ⊎_elim
+    (λ (s : k ≡ m). ap₂ (λ x y. x && y)
+    (eq-eqb e.packet_id v.packet_id (ap (λ i. (entry_of broadcast.cast i).packet_id) s ∙ sym right.same_id))
+    (eq-eqb e.mpu v.mpu (ap (λ i. (entry_of broadcast.cast i).mpu) s ∙ sym right.same_mpu)) ∙ sym (eq-eqb k m s))
+    (λ (ne : k ≡ m → ⊥). different e.packet_id v.packet_id e.mpu v.mpu
+    (λ a b. ne (naming.one_mpu k m (below k (omega (arith, ap as_number (eq-eqb k k refl)))) right.known (a ∙ right.same_id) (b ∙ right.same_mpu))) ∙ sym (ne_eqb k m ne))
+    (cases_eq k m) in
     ap (λ b. cond b (record { unit = v; time = time_of broadcast.sample_base e v } ∷ []) (presentations_by broadcast.sample_base (map (entry_of broadcast.cast) xs) v)) test
     ∙ go k (k == m) refl (presentations_by-map broadcast r xs u naming right (λ j l. below j (omega arith)))
   where
     different : (a b c d : ℕ) → (a ≡ b → c ≡ d → ⊥) → ((a == b) && (c == d)) ≡ false
     different a b c d h = grind (arith, nat_tests)
+
     go : (k : ℕ) (b : Bool) → (k == (unit_of broadcast u).mpu) ≡ b
         → presentations_by broadcast.sample_base (map (entry_of broadcast.cast) xs) (unit_of broadcast u).value ≡ cond (list_any (λ j. j == (unit_of broadcast u).mpu) xs) (presentation_of broadcast u ∷ []) []
         → cond b (record { unit = (unit_of broadcast u).value; time = time_of broadcast.sample_base (entry_of broadcast.cast k) (unit_of broadcast u).value } ∷ []) (presentations_by broadcast.sample_base (map (entry_of broadcast.cast) xs) (unit_of broadcast u).value)
-          ≡ cond (b || list_any (λ j. j == (unit_of broadcast u).mpu) xs) (presentation_of broadcast u ∷ []) []
+        ≡ cond (b || list_any (λ j. j == (unit_of broadcast u).mpu) xs) (presentation_of broadcast u ∷ []) []
     go k true e ih = ap (λ i. record { unit = (unit_of broadcast u).value; time = time_of broadcast.sample_base (entry_of broadcast.cast i) (unit_of broadcast u).value } ∷ []) (eqb-true k (unit_of broadcast u).mpu e)
     go k false e ih = ih
 
@@ -61,8 +61,8 @@ unfolding named_units
 named-map broadcast r xs [] naming right below = refl
 named-map broadcast r xs (u ∷ us) naming right below =
     ap₂ (λ a b. a ++ b)
-      (presentations_by-map broadcast r xs u naming (right u (omega (arith, ap as_number (eq-eqb u u refl)))) below)
-      (named-map broadcast r xs us naming (λ v l. right v (omega arith)) below)
+    (presentations_by-map broadcast r xs u naming (right u (omega (arith, ap as_number (eq-eqb u u refl)))) below)
+    (named-map broadcast r xs us naming (λ v l. right v (omega arith)) below)
     ∙ go (member (unit_of broadcast u).mpu xs)
   where
     go : (b : Bool) → cond b (presentation_of broadcast u ∷ []) [] ++ map (presentation_of broadcast) (filter (λ u. member (unit_of broadcast u).mpu xs) us) ≡ map (presentation_of broadcast) (cond b (u ∷ filter (λ u. member (unit_of broadcast u).mpu xs) us) (filter (λ u. member (unit_of broadcast u).mpu xs) us))
@@ -109,8 +109,8 @@ found_facts g broadcast r found start hist u reading h l =
     let H : List ℕ = held broadcast.cast.packets r start hist in
     let set = reading.set in
     let b : (nat_lt u (length broadcast.units) && list_all (λ k. member k H) (unit_of broadcast u).members) ≡ true =
-      as_number-true (nat_lt u (length broadcast.units) && list_all (λ k. member k H) (unit_of broadcast u).members)
-      (omega (arith, l, set.finding.once H (held-once broadcast.cast.packets r start hist set.short h.begins) (λ k t. (held_facts broadcast.cast.packets r start hist k set.short h.of h.begins t).of) u)) in
+    as_number-true (nat_lt u (length broadcast.units) && list_all (λ k. member k H) (unit_of broadcast u).members)
+    (omega (arith, l, set.finding.once H (held-once broadcast.cast.packets r start hist set.short h.begins) (λ k t. (held_facts broadcast.cast.packets r start hist k set.short h.of h.begins t).of) u)) in
     let both = and_parts (nat_lt u (length broadcast.units)) (list_all (λ k. member k H) (unit_of broadcast u).members) b in
     let lu = ltb-true u (length broadcast.units) both.0 in
     let right = set.playing.right u lu in
@@ -123,13 +123,13 @@ named_of_found broadcast r start hist us u l = times_of_filter u (λ u. member (
 known_below : (broadcast : Broadcast) (r : Params) (start : ℕ) (hist : List ℕ) (m : ℕ) → r.delay < r.window → IsNaming broadcast.cast r → IsHistory broadcast start hist → 0 < occurrences m (known broadcast.cast r start hist) → m < length broadcast.cast.mpus
 known_below broadcast r start hist m dw naming h l =
     (named_facts broadcast.cast r start hist m naming
-      (and_parts (is_named broadcast.cast r.delay hist m) (nat_lt (latest broadcast.cast.packets.sent start hist) (due_at broadcast.cast m))
-        (as_number-true (is_named broadcast.cast r.delay hist m && nat_lt (latest broadcast.cast.packets.sent start hist) (due_at broadcast.cast m)) (omega (arith, l, occurrences-known broadcast.cast r start hist m dw naming h.of h.begins)))).0).known
+    (and_parts (is_named broadcast.cast r.delay hist m) (nat_lt (latest broadcast.cast.packets.sent start hist) (due_at broadcast.cast m))
+    (as_number-true (is_named broadcast.cast r.delay hist m && nat_lt (latest broadcast.cast.packets.sent start hist) (due_at broadcast.cast m)) (omega (arith, l, occurrences-known broadcast.cast r start hist m dw naming h.of h.begins)))).0).known
 
 -- the named units of the kept packets
 timed : (g : Reading) (broadcast : Broadcast) (r : Params) (found : List ℕ → List ℕ) (start : ℕ) (hist : List ℕ) → IsReading g broadcast r found → IsHistory broadcast start hist
     → named_units g.sample_base (entries g.names_by r (low start) (map (heard_of broadcast.cast.packets) hist)) (g.units (kept r (low start) (map (heard_of broadcast.cast.packets) hist)))
-      ≡ map (presentation_of broadcast) (named broadcast r start hist (found (held broadcast.cast.packets r start hist)))
+    ≡ map (presentation_of broadcast) (named broadcast r start hist (found (held broadcast.cast.packets r start hist)))
 unfolding named
 timed g broadcast r found start hist reading h =
     let p : SentPackets = broadcast.cast.packets in
@@ -140,8 +140,8 @@ timed g broadcast r found start hist reading h =
     let us = set.finding.values H (held-once p r start hist set.short h.begins) (λ k t. (held_facts p r start hist k set.short h.of h.begins t).of) in
     (λ i. named_units (reading.sample_base i) (es i) ((ap g.units ks ∙ us) i))
     ∙ named-map broadcast r (known broadcast.cast r start hist) (found H) set.naming
-      (λ u l. set.playing.right u (found_facts g broadcast r found start hist u reading h l).below)
-      (λ k l. known_below broadcast r start hist k set.short set.naming h l)
+    (λ u l. set.playing.right u (found_facts g broadcast r found start hist u reading h l).below)
+    (λ k l. known_below broadcast r start hist k set.short set.naming h l)
 
 due_passed : (broadcast : Broadcast) (u L now : ℕ) → due_of_unit broadcast u ≤ L + 2 ^ 24 → L < due_of_unit broadcast u + 2 ^ 24 → L ≤ now → now < L + reach
     → is_passed (low (due_of (presentation_of broadcast u).time)) (low L) (low now) ≡ (nat_lt L (due_of_unit broadcast u) && nat_le (due_of_unit broadcast u) now)
@@ -166,10 +166,10 @@ handed-hand g broadcast r found start n older reading h =
     let c1 = clock-low p start (n ∷ older) h.near in
     let test : ℕ → Bool = λ u. nat_lt L (due_of_unit broadcast u) && nat_le (due_of_unit broadcast u) now in
     let filtered : filter (λ d. is_passed (low (due_of d.time)) (low L) (low now)) (map (presentation_of broadcast) us) ≡ map (presentation_of broadcast) (filter test us) =
-      filter-map (presentation_of broadcast) (λ d. is_passed (low (due_of d.time)) (low L) (low now)) test us
-      (λ u l.
-        let f = found_facts g broadcast r found start older u reading ho (named_of_found broadcast r start older (found (held p r start older)) u l) in
-        due_passed broadcast u L now f.soon f.recent (omega arith) (omega (arith, h.near.1))) in
+    filter-map (presentation_of broadcast) (λ d. is_passed (low (due_of d.time)) (low L) (low now)) test us
+    (λ u l.
+    let f = found_facts g broadcast r found start older u reading ho (named_of_found broadcast r start older (found (held p r start older)) u l) in
+    due_passed broadcast u L now f.soon f.recent (omega arith) (omega (arith, h.near.1))) in
     (λ i. sort_by is_presented_before (filter (λ d. is_passed (low (due_of d.time)) (c0 i) (c1 i)) (timed g broadcast r found start older reading ho i)))
     ∙ (ap (sort_by is_presented_before) filtered
     ∙ sort-map is_presented_before (presentation_of broadcast) (filter test us))
@@ -184,10 +184,10 @@ final-last g broadcast r found start hist reading h =
     let c = clock-low p start hist h.near in
     let test : ℕ → Bool = λ u. nat_lt now (due_of_unit broadcast u) in
     let filtered : filter (λ d. is_after (low (due_of d.time)) (low now)) (map (presentation_of broadcast) us) ≡ map (presentation_of broadcast) (filter test us) =
-      filter-map (presentation_of broadcast) (λ d. is_after (low (due_of d.time)) (low now)) test us
-      (λ u l.
-        let f = found_facts g broadcast r found start hist u reading h (named_of_found broadcast r start hist (found (held p r start hist)) u l) in
-        due_after broadcast u now f.soon f.recent) in
+    filter-map (presentation_of broadcast) (λ d. is_after (low (due_of d.time)) (low now)) test us
+    (λ u l.
+    let f = found_facts g broadcast r found start hist u reading h (named_of_found broadcast r start hist (found (held p r start hist)) u l) in
+    due_after broadcast u now f.soon f.recent) in
     (λ i. sort_by is_presented_before (filter (λ d. is_after (low (due_of d.time)) (c i)) (timed g broadcast r found start hist reading h i)))
     ∙ (ap (sort_by is_presented_before) filtered
     ∙ sort-map is_presented_before (presentation_of broadcast) (filter test us))

@@ -6,7 +6,6 @@ use Rattle.std.proofs.lemmas.Bool.{cases_eq, eq-eqb, ne_eqb, and_parts, or_cases
 use Rattle.std.proofs.lemmas.List.Sums.{sum_by-cons, sum_by_push}
 use Rattle.mmt_base.proofs.TickLemmas.{advance-low, is_after-low, plus-low}
 use Rattle.mmt_base.specs.Ticks.{advance, low}
-use Rattle.mmt_delivery.proofs.Admitting.{sound}
 use Rattle.mmt_delivery.proofs.Held.{begins-older, held, occurrences-held, place_before, within}
 use Rattle.mmt_delivery.proofs.Loads.{AllBelow, sum_by-le-passing}
 use Rattle.mmt_delivery.proofs.Premises.{Begins, IsNear, IsSound}
@@ -37,9 +36,9 @@ survives-latest cast delay start [] n s = absurd cc
 survives-latest cast delay start (k ∷ older) n s =
     ⊎_elim
     (λ (h : ((k == n) && not (is_overtaken cast.sent delay older n)) ≡ true).
-      let a : (k == n) ≡ true = (and_parts (k == n) (not (is_overtaken cast.sent delay older n)) h).0 in
-      let e : k ≡ n = grind (arith, nat_tests) in
-      omega (arith, ap (sent_at cast.sent) e))
+    let a : (k == n) ≡ true = (and_parts (k == n) (not (is_overtaken cast.sent delay older n)) h).0 in
+    let e : k ≡ n = grind (arith, nat_tests) in
+    omega (arith, ap (sent_at cast.sent) e))
     (λ (h : survives cast.sent delay older n ≡ true). omega (arith, survives-latest cast delay start older n h))
     (or_cases ((k == n) && not (is_overtaken cast.sent delay older n)) (survives cast.sent delay older n) s)
 
@@ -49,9 +48,9 @@ survives-of cast delay [] n o s = absurd cc
 survives-of cast delay (k ∷ older) n o s =
     ⊎_elim
     (λ (h : ((k == n) && not (is_overtaken cast.sent delay older n)) ≡ true).
-      let a : (k == n) ≡ true = (and_parts (k == n) (not (is_overtaken cast.sent delay older n)) h).0 in
-      let e : k ≡ n = grind (arith, nat_tests) in
-      omega (arith, o.0))
+    let a : (k == n) ≡ true = (and_parts (k == n) (not (is_overtaken cast.sent delay older n)) h).0 in
+    let e : k ≡ n = grind (arith, nat_tests) in
+    omega (arith, o.0))
     (λ (h : survives cast.sent delay older n ≡ true). survives-of cast delay older n o.1 h)
     (or_cases ((k == n) && not (is_overtaken cast.sent delay older n)) (survives cast.sent delay older n) s)
 
@@ -66,7 +65,7 @@ pub held_facts : (cast : SentPackets) (r : Params) (start : ℕ) (hist : List �
     → 0 < occurrences n (held cast r start hist) → IsHeld cast r start hist n
 held_facts cast r start hist n dw o b t =
     let e : (survives cast.sent r.delay hist n && nat_lt (latest cast.sent start hist) (sent_at cast.sent n + r.window)) ≡ true =
-      as_number-true (survives cast.sent r.delay hist n && nat_lt (latest cast.sent start hist) (sent_at cast.sent n + r.window)) (omega (arith, occurrences-held cast r start hist n dw b)) in
+    as_number-true (survives cast.sent r.delay hist n && nat_lt (latest cast.sent start hist) (sent_at cast.sent n + r.window)) (omega (arith, occurrences-held cast r start hist n dw b)) in
     let p = and_parts (survives cast.sent r.delay hist n) (nat_lt (latest cast.sent start hist) (sent_at cast.sent n + r.window)) e in
     record {
       survived = p.0;
@@ -85,11 +84,11 @@ pub sum_held : (cast : SentPackets) (r : Params) (start : ℕ) (hist : List ℕ)
     → sum_by (length_of cast.sent) (held cast r start hist) ≤ load cast.sent r.window (latest cast.sent start hist)
 unfolding load length_of sent_at
 sum_held cast r start hist dw o b =
-    sum_by-le-passing (λ p. nat_le p.at (latest cast.sent start hist) && nat_lt (latest cast.sent start hist) (p.at + r.window)) (λ p. p.length) cast no_packet (held cast r start hist)
+    sum_by-le-passing (λ p. nat_le p.at.0 (latest cast.sent start hist) && nat_lt (latest cast.sent start hist) (p.at.0 + r.window)) (λ p. p.length) cast.sent no_packet (held cast r start hist)
     (below_from_times (length cast.sent) (held cast r start hist) (λ k t. (held_facts cast r start hist k dw o b t).of))
     (λ k. let e = occurrences-held cast r start hist k dw b in
-      let m = bound_bit (survives cast.sent r.delay hist k) (nat_lt (latest cast.sent start hist) (sent_at cast.sent k + r.window)) (nat_le (sent_at cast.sent k) (latest cast.sent start hist)) (λ s. le-leb (sent_at cast.sent k) (latest cast.sent start hist) (survives-latest cast r.delay start hist k s)) in
-      rw e m)
+    let m = bound_bit (survives cast.sent r.delay hist k) (nat_lt (latest cast.sent start hist) (sent_at cast.sent k + r.window)) (nat_le (sent_at cast.sent k) (latest cast.sent start hist)) (λ s. le-leb (sent_at cast.sent k) (latest cast.sent start hist) (survives-latest cast r.delay start hist k s)) in
+    rw e m)
 
 -- the clock is that of whole ticks
 pub clock-low : (cast : SentPackets) (start : ℕ) (hist : List ℕ) → IsNear cast.sent start hist → clock (low start) (map (heard_of cast) hist) ≡ low (latest cast.sent start hist)
@@ -114,7 +113,7 @@ repeat_same cast r j k sound lj lk =
     ⊎_elim
     (λ (e : j ≡ k). rw (eq-eqb j k e, ap (λ i. (get_or cast.sent i no_packet).packet_id) e, ap (λ i. (get_or cast.sent i no_packet).number) e) (grind (arith, nat_tests)))
     (λ (ne : j ≡ k → ⊥). rw (ne_eqb j k ne)
-      (different ((get_or cast.sent j no_packet).packet_id) ((get_or cast.sent k no_packet).packet_id) ((get_or cast.sent j no_packet).number) ((get_or cast.sent k no_packet).number) (λ a b. ne (sound.apart j k lj lk a b))))
+    (different ((get_or cast.sent j no_packet).packet_id) ((get_or cast.sent k no_packet).packet_id) ((get_or cast.sent j no_packet).number) ((get_or cast.sent k no_packet).number) (λ a b. ne (sound.apart j k lj lk a b))))
     (cases_eq j k)
   where
     different : (a b c d : ℕ) → (a ≡ b → c ≡ d → ⊥) → ((a == b) && (c == d)) ≡ false
@@ -187,8 +186,8 @@ pub record Goes (cast : SentPackets) (r : Params) (start k : ℕ) (older : List 
       ≡ map (heard_of cast) (within cast r (latest cast.sent start (k ∷ older)) (held cast r start older))
   pub fated : outcome r (low (latest cast.sent start (k ∷ older))) (map (heard_of cast) (within cast r (latest cast.sent start (k ∷ older)) (held cast r start older))) (heard_of cast k)
       ≡ cond (nat_le (latest cast.sent start (k ∷ older)) (sent_at cast.sent k + r.delay))
-        (cond (list_any (λ j. j == k) (within cast r (latest cast.sent start (k ∷ older)) (held cast r start older))) Outcome.Repeat Outcome.Stored)
-        Outcome.Late
+      (cond (list_any (λ j. j == k) (within cast r (latest cast.sent start (k ∷ older)) (held cast r start older))) Outcome.Repeat Outcome.Stored)
+      Outcome.Late
   pub next_number : kept r (low start) (map (heard_of cast) (k ∷ older)) ≡ map (heard_of cast) (held cast r start (k ∷ older))
 
 pub times_of_filter : (n : ℕ) (p : ℕ → Bool) (ks : List ℕ) → 0 < occurrences n (filter p ks) → 0 < occurrences n ks
@@ -219,8 +218,8 @@ rest_same cast r start k older sound o b near =
     let L : ℕ = latest cast.sent start older in
     let now : ℕ = max L (sent_at cast.sent k) in
     filter-map (heard_of cast) (is_in_window r (low now)) (λ j. nat_lt now (sent_at cast.sent j + r.window)) (held cast r start older)
-      (λ j p. (let f = held_facts cast r start older j sound.short_delay o.1 (begins-older cast start k older b) p in
-          window_same cast r now j sound.short_window (omega (arith, f.heard)) (omega (arith, f.in_window, near.1))))
+    (λ j p. (let f = held_facts cast r start older j sound.short_delay o.1 (begins-older cast start k older b) p in
+    window_same cast r now j sound.short_window (omega (arith, f.heard)) (omega (arith, f.in_window, near.1))))
 
 insert_places : (cast : SentPackets) (ks : List ℕ) (k : ℕ) → insert_by is_kept_before (heard_of cast k) (map (heard_of cast) ks) ≡ map (heard_of cast) (insert_by (place_before cast) k ks)
 unfolding place_before
@@ -240,27 +239,28 @@ goes cast r start k older sound o b near ih =
     let a : Bool = list_any (λ j. j == k) rest' in
     let c = clock-low cast start (k ∷ older) near in
     let rests : still_kept r (clock (low start) (map (heard_of cast) (k ∷ older))) (kept r (low start) (map (heard_of cast) older)) ≡ map (heard_of cast) rest' =
-      ap₂ (still_kept r) c ih ∙ rest_same cast r start k older sound o b near in
+    ap₂ (still_kept r) c ih ∙ rest_same cast r start k older sound o b near in
     let timely : is_in_time r (low now) h ≡ t = in_time_same cast r now k (omega (arith, sound.short_delay, sound.short_window)) (omega arith) (omega (arith, near.2)) in
     let repeats : list_any (is_repeat h) (map (heard_of cast) rest') ≡ a =
-      any-map (heard_of cast) (is_repeat h) (λ j. j == k) rest'
-      (λ j p. (let q : 0 < occurrences j (held cast r start older) = unfold within in (times_of_filter j (λ i. nat_lt now (sent_at cast.sent i + r.window)) (held cast r start older) p) in
-        repeat_same cast r j k sound (held_facts cast r start older j sound.short_delay o.1 bo q).of o.0)) in
+    any-map (heard_of cast) (is_repeat h) (λ j. j == k) rest'
+    (λ j p. (let q : 0 < occurrences j (held cast r start older) = unfold within in (times_of_filter j (λ i. nat_lt now (sent_at cast.sent i + r.window)) (held cast r start older) p) in
+    repeat_same cast r j k sound (held_facts cast r start older j sound.short_delay o.1 bo q).of o.0)) in
     let fated : outcome r (low now) (map (heard_of cast) rest') h ≡ cond t (cond a Outcome.Repeat Outcome.Stored) Outcome.Late =
-      fate_with_room r (low now) (map (heard_of cast) rest') h t a (unfold heard_of in refl) timely repeats
-      (λ e f. (let room = room_for cast r start k older sound o b e f in
-        let size : h.length ≡ length_of cast.sent k = unfold heard_of length_of in refl in
-        omega (arith, room, sum-map_heard cast rest', size))) in
+    fate_with_room r (low now) (map (heard_of cast) rest') h t a (unfold heard_of in refl) timely repeats
+    (λ e f. (let room = room_for cast r start k older sound o b e f in
+    let size : h.length ≡ length_of cast.sent k = unfold heard_of length_of in refl in
+    omega (arith, room, sum-map_heard cast rest', size))) in
     record {
       rest = rests;
       fated = fated;
       next_number =
-        (ap₂ (λ n l. kept_after (outcome r n l h) l h) c rests
-        ∙ (ap (λ f. kept_after f (map (heard_of cast) rest') h) fated
-        ∙ (after_whole (map (heard_of cast) rest') h t a
-        ∙ (ap (λ l. cond (t && not a) l (map (heard_of cast) rest')) (insert_places cast rest' k)
-        ∙ sym (map-cond (heard_of cast) (t && not a) (insert_by (place_before cast) k rest') rest')))));
+          (ap₂ (λ n l. kept_after (outcome r n l h) l h) c rests
+          ∙ (ap (λ f. kept_after f (map (heard_of cast) rest') h) fated
+          ∙ (after_whole (map (heard_of cast) rest') h t a
+          ∙ (ap (λ l. cond (t && not a) l (map (heard_of cast) rest')) (insert_places cast rest' k)
+          ∙ sym (map-cond (heard_of cast) (t && not a) (insert_by (place_before cast) k rest') rest')))));
     }
+
 -- the kept packets are the held ones
 pub kept-held : (cast : SentPackets) (r : Params) (start : ℕ) (hist : List ℕ) → IsSound cast r → AreOf cast.sent hist → Begins cast.sent start hist → IsNear cast.sent start hist
     → kept r (low start) (map (heard_of cast) hist) ≡ map (heard_of cast) (held cast r start hist)

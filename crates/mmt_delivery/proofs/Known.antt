@@ -3,7 +3,7 @@ use Rattle.std.proofs.Common.{◌≡◌, ℕ, ◌+◌, ◌^◌, ◌<◌, ◌≤�
 use Rattle.std.specs.List.{list_any, list_all, flat_map}
 use Rattle.std.proofs.lemmas.Bool.Decides.{nat_tests}
 use Rattle.std.proofs.lemmas.Bool.{cases_eq, eq-eqb, ne_eqb, and_parts, and_from, and_cases, not-false, eqb-true, or_cases, or_right, or_left, cases_Bool, ltb-true, leb-true, lt-ltb, false_from_ne_true}
-use Rattle.mmt_delivery.proofs.Admitting.{naming}
+use Rattle.std.specs.List.{AllByRecursion}
 use Rattle.mmt_delivery.proofs.Held.{begins-older, held, in_time-survives, occurrences-held, occurrences-step, window-step, within}
 use Rattle.mmt_delivery.proofs.Kept.{held_facts, times_of_filter}
 use Rattle.mmt_delivery.proofs.Premises.{Begins, IsNaming, IsRightCopy, names_made_known}
@@ -76,12 +76,12 @@ survives-not_new cast r start n older j dw o b new =
     let a : Bool = list_any (λ k. k == n) rest in
     survives-step p r.delay start n older j b
     ∙ absorb (n == j) t (survives p.sent r.delay older j)
-      (λ e h.
-        let kept : a ≡ true = ⊎_elim (λ (f : t ≡ false). absurd (cc (f, h))) (λ (f : not a ≡ false). not-false a f) (and_cases t (not a) new) in
-        let some : nat_lt 0 (occurrences n rest) ≡ true = sym (any-occurrences n rest) ∙ kept in
-        let f = held_facts p r start older n dw o.1 (begins-older p start n older b) (times_of_filter n (λ k. nat_lt now (sent_at p.sent k + r.window)) (held p r start older) (ltb-true 0 (occurrences n rest) some)) in
-        let same : n ≡ j = eqb-true n j e in
-        ap (survives p.sent r.delay older) (sym same) ∙ f.survived)
+    (λ e h.
+    let kept : a ≡ true = ⊎_elim (λ (f : t ≡ false). absurd (cc (f, h))) (λ (f : not a ≡ false). not-false a f) (and_cases t (not a) new) in
+    let some : nat_lt 0 (occurrences n rest) ≡ true = sym (any-occurrences n rest) ∙ kept in
+    let f = held_facts p r start older n dw o.1 (begins-older p start n older b) (times_of_filter n (λ k. nat_lt now (sent_at p.sent k + r.window)) (held p r start older) (ltb-true 0 (occurrences n rest) some)) in
+    let same : n ≡ j = eqb-true n j e in
+    ap (survives p.sent r.delay older) (sym same) ∙ f.survived)
 
 forth_case : (p : SentPackets) (r : Params) (start n : ℕ) (older : List ℕ) (c : CopyPlaces) → r.delay < r.window → Begins p.sent start (n ∷ older)
     → latest p.sent start (n ∷ older) ≤ sent_at p.sent n + r.delay → AllByRecursion (λ i. AllByRecursion (λ k. sent_at p.sent i + r.delay < sent_at p.sent k + r.window) c.members) c.members
@@ -90,26 +90,26 @@ forth_case : (p : SentPackets) (r : Params) (start n : ℕ) (older : List ℕ) (
 forth_case p r start n older c dw b timely together true e h =
     or_right (list_all (survives p.sent r.delay older) c.members) (list_all (λ k. member k (held p r start (n ∷ older))) c.members)
     (all-from (λ k. member k (held p r start (n ∷ older))) c.members
-      (λ k m.
-        let s : survives p.sent r.delay (n ∷ older) k ≡ true = all-at (survives p.sent r.delay (n ∷ older)) c.members k h m in
-        let near : sent_at p.sent n + r.delay < sent_at p.sent k + r.window = each-at (λ k. sent_at p.sent n + r.delay < sent_at p.sent k + r.window) c.members k (each-at (λ i. AllByRecursion (λ k. sent_at p.sent i + r.delay < sent_at p.sent k + r.window) c.members) c.members n together e) m in
-        let w : nat_lt (latest p.sent start (n ∷ older)) (sent_at p.sent k + r.window) ≡ true = lt-ltb (latest p.sent start (n ∷ older)) (sent_at p.sent k + r.window) (omega arith) in
-        let one : occurrences k (held p r start (n ∷ older)) ≡ 1 = occurrences-held p r start (n ∷ older) k dw b ∙ ap₂ (λ x y. as_number (x && y)) s w in
-        member-occurrences k (held p r start (n ∷ older)) ∙ ap (nat_lt 0) one))
+    (λ k m.
+    let s : survives p.sent r.delay (n ∷ older) k ≡ true = all-at (survives p.sent r.delay (n ∷ older)) c.members k h m in
+    let near : sent_at p.sent n + r.delay < sent_at p.sent k + r.window = each-at (λ k. sent_at p.sent n + r.delay < sent_at p.sent k + r.window) c.members k (each-at (λ i. AllByRecursion (λ k. sent_at p.sent i + r.delay < sent_at p.sent k + r.window) c.members) c.members n together e) m in
+    let w : nat_lt (latest p.sent start (n ∷ older)) (sent_at p.sent k + r.window) ≡ true = lt-ltb (latest p.sent start (n ∷ older)) (sent_at p.sent k + r.window) (omega arith) in
+    let one : occurrences k (held p r start (n ∷ older)) ≡ 1 = occurrences-held p r start (n ∷ older) k dw b ∙ ap₂ (λ x y. as_number (x && y)) s w in
+    member-occurrences k (held p r start (n ∷ older)) ∙ ap (nat_lt 0) one))
 forth_case p r start n older c dw b timely together false e h =
     or_left (list_all (survives p.sent r.delay older) c.members) false
     (all-from (survives p.sent r.delay older) c.members
-      (λ k m.
-        let s : survives p.sent r.delay (n ∷ older) k ≡ true = all-at (survives p.sent r.delay (n ∷ older)) c.members k h m in
-        let other : (n == k) ≡ false = ne_eqb n k (λ same. true≢false (sym m ∙ (ap (λ i. member i c.members) (sym same) ∙ e))) in
-        let st = survives-step p r.delay start n older k b in
-        sym (st ∙ ap (λ x. (x && nat_le (latest p.sent start (n ∷ older)) (sent_at p.sent n + r.delay)) || survives p.sent r.delay older k) other) ∙ s))
+    (λ k m.
+    let s : survives p.sent r.delay (n ∷ older) k ≡ true = all-at (survives p.sent r.delay (n ∷ older)) c.members k h m in
+    let other : (n == k) ≡ false = ne_eqb n k (λ same. true≢false (sym m ∙ (ap (λ i. member i c.members) (sym same) ∙ e))) in
+    let st = survives-step p r.delay start n older k b in
+    sym (st ∙ ap (λ x. (x && nat_le (latest p.sent start (n ∷ older)) (sent_at p.sent n + r.delay)) || survives p.sent r.delay older k) other) ∙ s))
 
 -- a copy is whole after a stored packet where it was whole before, or where the packet is of it and all of it is kept
 whole-step : (cast : NamedCast) (r : Params) (start n : ℕ) (older : List ℕ) (c : CopyPlaces) → r.delay < r.window → AreOf cast.packets.sent (n ∷ older) → Begins cast.packets.sent start (n ∷ older)
     → is_new cast r start n older ≡ true → IsRightCopy cast r c
     → list_all (survives cast.packets.sent r.delay (n ∷ older)) c.members
-      ≡ (list_all (survives cast.packets.sent r.delay older) c.members || (member n c.members && list_all (λ k. member k (held cast.packets r start (n ∷ older))) c.members))
+    ≡ (list_all (survives cast.packets.sent r.delay older) c.members || (member n c.members && list_all (λ k. member k (held cast.packets r start (n ∷ older))) c.members))
 unfolding is_new
 whole-step cast r start n older c dw o b new right =
     let p : SentPackets = cast.packets in
@@ -121,16 +121,16 @@ whole-step cast r start n older c dw o b new right =
     let timely : now ≤ sent_at p.sent n + r.delay = leb-true now (sent_at p.sent n + r.delay) (and_parts t (not (list_any (λ k. k == n) (within p r now (held p r start older)))) new).0 in
     let step : (j : ℕ) → S' j ≡ (((n == j) && t) || S j) = λ j. survives-step p r.delay start n older j b in
     let forth : (m : Bool) → member n c.members ≡ m → list_all S' c.members ≡ true → (list_all S c.members || (m && list_all (λ k. member k H) c.members)) ≡ true =
-      λ m. forth_case p r start n older c dw b timely right.together m in
+    λ m. forth_case p r start n older c dw b timely right.together m in
     same_tests (list_all S' c.members) (list_all S c.members || (member n c.members && list_all (λ k. member k H) c.members))
     (forth (member n c.members) refl)
     (λ h. all-from S' c.members
-      (λ k m. ⊎_elim
-        (λ (f : list_all S c.members ≡ true). step k ∙ or_right ((n == k) && t) (S k) (all-at S c.members k f m))
-        (λ (f : (member n c.members && list_all (λ k. member k H) c.members) ≡ true).
-          let g : member k H ≡ true = all-at (λ k. member k H) c.members k (and_parts (member n c.members) (list_all (λ k. member k H) c.members) f).1 m in
-          (held_facts p r start (n ∷ older) k dw o b (ltb-true 0 (occurrences k H) (sym (member-occurrences k H) ∙ g))).survived)
-        (or_cases (list_all S c.members) (member n c.members && list_all (λ k. member k H) c.members) h)))
+    (λ k m. ⊎_elim
+    (λ (f : list_all S c.members ≡ true). step k ∙ or_right ((n == k) && t) (S k) (all-at S c.members k f m))
+    (λ (f : (member n c.members && list_all (λ k. member k H) c.members) ≡ true).
+    let g : member k H ≡ true = all-at (λ k. member k H) c.members k (and_parts (member n c.members) (list_all (λ k. member k H) c.members) f).1 m in
+    (held_facts p r start (n ∷ older) k dw o b (ltb-true 0 (occurrences k H) (sym (member-occurrences k H) ∙ g))).survived)
+    (or_cases (list_all S c.members) (member n c.members && list_all (λ k. member k H) c.members) h)))
 
 -- which MPUs are named after a stored packet
 named-new : (cast : NamedCast) (r : Params) (start n : ℕ) (older : List ℕ) (m : ℕ) → r.delay < r.window → IsNaming cast r → AreOf cast.packets.sent (n ∷ older) → Begins cast.packets.sent start (n ∷ older)
@@ -143,10 +143,10 @@ named-new cast r start n older m dw naming o b new =
     let S' : ℕ → Bool = survives cast.packets.sent r.delay (n ∷ older) in
     let says : CopyPlaces → Bool = λ c. member n c.members && list_all (λ k. member k H) c.members in
     any-or (IsRightCopy cast r) (λ c. member m c.names && list_all S' c.members) (λ c. member m c.names && list_all S c.members) (λ c. member m (cond (says c) c.names [])) cast.copies naming.right
-      (λ c right.
-        ap (λ x. member m c.names && x) (whole-step cast r start n older c dw o b new right)
-        ∙ (spread (member m c.names) (list_all S c.members) (says c)
-        ∙ ap (λ x. (member m c.names && list_all S c.members) || x) (sym (member-cond m (says c) c.names))))
+    (λ c right.
+    ap (λ x. member m c.names && x) (whole-step cast r start n older c dw o b new right)
+    ∙ (spread (member m c.names) (list_all S c.members) (says c)
+    ∙ ap (λ x. (member m c.names && list_all S c.members) || x) (sym (member-cond m (says c) c.names))))
     ∙ ap (λ x. list_any (λ c. member m c.names && list_all S c.members) cast.copies || x) (sym (member-flat_map m (λ c. cond (says c) c.names []) cast.copies))
   where
     spread : (x a s : Bool) → (x && (a || s)) ≡ ((x && a) || (s && x))
@@ -169,8 +169,8 @@ unfolding is_named is_complete survives
 named-none cast r m naming =
     false_from_ne_true (list_any (λ c. member m c.names && list_all (λ n. false) c.members) cast.copies)
     (λ h.
-      let w = any-some (IsRightCopy cast r) (λ c. member m c.names && list_all (λ n. false) c.members) cast.copies naming.right h in
-      none w.0.members w.1.some (and_parts (member m w.0.names) (list_all (λ n. false) w.0.members) w.2).1)
+    let w = any-some (IsRightCopy cast r) (λ c. member m c.names && list_all (λ n. false) c.members) cast.copies naming.right h in
+    none w.0.members w.1.some (and_parts (member m w.0.names) (list_all (λ n. false) w.0.members) w.2).1)
   where
     none : (ks : List ℕ) → 0 < length ks → list_all {X = ℕ} (λ n. false) ks ≡ true → ⊥
     none [] l e = omega arith
@@ -239,12 +239,13 @@ occurrences-known cast r start (n ∷ older) m dw naming o b =
         or_false : (b : Bool) → b ≡ (b || false)
         or_false true = refl
         or_false false = refl
+
     told-due : (cast : NamedCast) (r : Params) (start n : ℕ) (older : List ℕ) (m : ℕ) → IsNaming cast r → (x : Bool) → is_new cast r start n older ≡ x
         → member m (cond x (names_made_known cast (held cast.packets r start (n ∷ older)) n) []) ≡ true → nat_lt (latest cast.packets.sent start (n ∷ older)) (due_at cast m) ≡ true
     told-due cast r start n older m naming true new h =
         let f = told_facts cast r (held cast.packets r start (n ∷ older)) n m naming h in
         let t : nat_le (latest cast.packets.sent start (n ∷ older)) (sent_at cast.packets.sent n + r.delay) ≡ true =
-          (and_parts (nat_le (latest cast.packets.sent start (n ∷ older)) (sent_at cast.packets.sent n + r.delay)) (not (list_any (λ k. k == n) (within cast.packets r (latest cast.packets.sent start (n ∷ older)) (held cast.packets r start older)))) (unfold is_new in new)).0 in
+        (and_parts (nat_le (latest cast.packets.sent start (n ∷ older)) (sent_at cast.packets.sent n + r.delay)) (not (list_any (λ k. k == n) (within cast.packets r (latest cast.packets.sent start (n ∷ older)) (held cast.packets r start older)))) (unfold is_new in new)).0 in
         let l = leb-true (latest cast.packets.sent start (n ∷ older)) (sent_at cast.packets.sent n + r.delay) t in
         lt-ltb (latest cast.packets.sent start (n ∷ older)) (due_at cast m) (omega (arith, f.not_late))
     told-due cast r start n older m naming false new h = absurd (true≢false (sym h ∙ (unfold member in refl)))

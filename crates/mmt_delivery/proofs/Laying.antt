@@ -3,7 +3,7 @@ use Rattle.std.proofs.Common.{◌≡◌, ℕ, ◌+◌, ◌-◌, ◌*◌, ◌%◌
 use Rattle.std.specs.List.{list_any, list_all, flat_map}
 use Rattle.std.proofs.lemmas.Bool.Decides.{nat_tests}
 use Rattle.std.proofs.lemmas.Bool.{cases_eq, eq-eqb, eqb-true, eqb-false, ne_eqb, and_parts, and_from, or_cases, or_right, or_left, cases_Bool, ltb-true, leb-true, lt-ltb, le-ltb, le-leb, lt-leb, cases_lt, false_from_ne_true}
-use Rattle.mmt_delivery.proofs.Admitting.{apart}
+use Rattle.std.specs.List.{AllByRecursion}
 use Rattle.mmt_delivery.proofs.Finding.{IsApart}
 use Rattle.mmt_delivery.proofs.Telling.{next_number-low}
 use Rattle.mmt_delivery.proofs.Tests.{same_tests}
@@ -54,12 +54,16 @@ occurrences-numbers u f zero = ⊎_elim
     (cases_lt u f)
 occurrences-numbers u f (suc c) =
     ⊎_elim
-    (λ (e : f ≡ u). omega (arith, occurrences-numbers u (f + 1) c, ap as_number (eq-eqb f u e),
+    (λ (e : f ≡ u). omega (
+      arith,
+      occurrences-numbers u (f + 1) c,
+      ap as_number (eq-eqb f u e),
       ap as_number (ap (λ b. b && nat_lt u (f + 1 + c)) (lt-leb (f + 1) u (omega arith))),
-      ap as_number (ap₂ (λ a b. a && b) (le-leb f u (omega arith)) (lt-ltb u (f + suc c) (omega arith)))))
+      ap as_number (ap₂ (λ a b. a && b) (le-leb f u (omega arith)) (lt-ltb u (f + suc c) (omega arith))),
+    ))
     (λ (ne : f ≡ u → ⊥).
-      let same : (nat_le (f + 1) u && nat_lt u (f + 1 + c)) ≡ (nat_le f u && nat_lt u (f + suc c)) = grind (arith, nat_tests) in
-      omega (arith, occurrences-numbers u (f + 1) c, ap as_number (ne_eqb f u ne), ap as_number same))
+    let same : (nat_le (f + 1) u && nat_lt u (f + 1 + c)) ≡ (nat_le f u && nat_lt u (f + suc c)) = grind (arith, nat_tests) in
+    omega (arith, occurrences-numbers u (f + 1) c, ap as_number (ne_eqb f u ne), ap as_number same))
     (cases_eq f u)
 
 occurrences-starts : (u : ℕ) (c : Carries) → occurrences u (starts_by c) ≡ as_number (has_part u 0 c)
@@ -88,39 +92,39 @@ occurrences-starts u (Carries.Parameters bytes) = refl
 occurrences-starts u (Carries.Table c) = refl
 occurrences-starts u (Carries.TablePart c k) = refl
 
-first_member : (broadcast : Broadcast) (l : Layout) (u : ℕ) → IsLaidUnit broadcast l u → first_of (unit_of broadcast u).members ≡ place_of broadcast.cast.packets (l.packet_id u) (l.first u)
+first_member : (broadcast : Broadcast) (l : Layout) (u : ℕ) → IsLaidUnit broadcast l u → first_of (unit_of broadcast u).members ≡ place_of broadcast.cast.packets.sent (l.packet_id u) (l.first u)
 first_member broadcast l u laid = ap first_of laid.members ∙ go (l.count u) laid.some
   where
-    go : (c : ℕ) → 1 ≤ c → first_of (map (place_of broadcast.cast.packets (l.packet_id u)) (numbers (l.first u) c)) ≡ place_of broadcast.cast.packets (l.packet_id u) (l.first u)
+    go : (c : ℕ) → 1 ≤ c → first_of (map (place_of broadcast.cast.packets.sent (l.packet_id u)) (numbers (l.first u) c)) ≡ place_of broadcast.cast.packets.sent (l.packet_id u) (l.first u)
     go zero h = absurd (omega arith)
     go (suc c) h = unfold numbers in refl
 
 -- the packet with part k of a unit
 place-part : (broadcast : Broadcast) (l : Layout) (n u k : ℕ) → IsApart broadcast.cast.packets → IsLaid broadcast l → n < length broadcast.cast.packets.sent → has_part u k (l.carries n) ≡ true → k < l.count u
-    → (u < length broadcast.units) × (n ≡ place_of broadcast.cast.packets (l.packet_id u) (l.first u + k))
+    → (u < length broadcast.units) × (n ≡ place_of broadcast.cast.packets.sent (l.packet_id u) (l.first u + k))
 place-part broadcast l n u k apart laid ln h lk =
     let r = right_part broadcast l (get_or broadcast.cast.packets.sent n no_packet).packet_id (get_or broadcast.cast.packets.sent n no_packet).number u k (l.carries n) (laid.placed n ln) h in
     let at = ((laid.unit u r.below).each k lk).0 in
-    (r.below, apart n (place_of broadcast.cast.packets (l.packet_id u) (l.first u + k)) ln at.of (r.same_id ∙ sym at.has_id) (r.same_number ∙ sym at.has_number))
+    (r.below, apart n (place_of broadcast.cast.packets.sent (l.packet_id u) (l.first u + k)) ln at.of (r.same_id ∙ sym at.has_id) (r.same_number ∙ sym at.has_number))
 
 once_by : (broadcast : Broadcast) (l : Layout) (u n : ℕ) → IsApart broadcast.cast.packets → IsLaid broadcast l → n < length broadcast.cast.packets.sent
     → has_part u 0 (l.carries n) ≡ (nat_lt u (length broadcast.units) && (n == first_of (unit_of broadcast u).members))
 once_by broadcast l u n apart laid ln =
     same_tests (has_part u 0 (l.carries n)) (nat_lt u (length broadcast.units) && (n == first_of (unit_of broadcast u).members))
     (λ h.
-      let r = right_part broadcast l (get_or broadcast.cast.packets.sent n no_packet).packet_id (get_or broadcast.cast.packets.sent n no_packet).number u 0 (l.carries n) (laid.placed n ln) h in
-      let unit = laid.unit u r.below in
-      let p = place-part broadcast l n u 0 apart laid ln h (omega (arith, unit.some)) in
-      let z : l.first u + 0 ≡ l.first u = omega arith in
-      and_from (nat_lt u (length broadcast.units)) (n == first_of (unit_of broadcast u).members) (lt-ltb u (length broadcast.units) r.below)
-      (eq-eqb n (first_of (unit_of broadcast u).members) (p.1 ∙ (ap (place_of broadcast.cast.packets (l.packet_id u)) z ∙ sym (first_member broadcast l u unit)))))
+    let r = right_part broadcast l (get_or broadcast.cast.packets.sent n no_packet).packet_id (get_or broadcast.cast.packets.sent n no_packet).number u 0 (l.carries n) (laid.placed n ln) h in
+    let unit = laid.unit u r.below in
+    let p = place-part broadcast l n u 0 apart laid ln h (omega (arith, unit.some)) in
+    let z : l.first u + 0 ≡ l.first u = omega arith in
+    and_from (nat_lt u (length broadcast.units)) (n == first_of (unit_of broadcast u).members) (lt-ltb u (length broadcast.units) r.below)
+    (eq-eqb n (first_of (unit_of broadcast u).members) (p.1 ∙ (ap (place_of broadcast.cast.packets.sent (l.packet_id u)) z ∙ sym (first_member broadcast l u unit)))))
     (λ h.
-      let p = and_parts (nat_lt u (length broadcast.units)) (n == first_of (unit_of broadcast u).members) h in
-      let lu = ltb-true u (length broadcast.units) p.0 in
-      let unit = laid.unit u lu in
-      let e : n ≡ place_of broadcast.cast.packets (l.packet_id u) (l.first u) = eqb-true n (first_of (unit_of broadcast u).members) p.1 ∙ first_member broadcast l u unit in
-      let z : l.first u ≡ l.first u + 0 = omega arith in
-      ap (λ i. has_part u 0 (l.carries i)) (e ∙ ap (place_of broadcast.cast.packets (l.packet_id u)) z) ∙ (unit.each 0 (omega (arith, unit.some))).1)
+    let p = and_parts (nat_lt u (length broadcast.units)) (n == first_of (unit_of broadcast u).members) h in
+    let lu = ltb-true u (length broadcast.units) p.0 in
+    let unit = laid.unit u lu in
+    let e : n ≡ place_of broadcast.cast.packets.sent (l.packet_id u) (l.first u) = eqb-true n (first_of (unit_of broadcast u).members) p.1 ∙ first_member broadcast l u unit in
+    let z : l.first u ≡ l.first u + 0 = omega arith in
+    ap (λ i. has_part u 0 (l.carries i)) (e ∙ ap (place_of broadcast.cast.packets.sent (l.packet_id u)) z) ∙ (unit.each 0 (omega (arith, unit.some))).1)
 
 abbrev pub cut_data_unit : Layout → ℕ → ℕ → DataUnit
 cut_data_unit l u k = record { key = (l.data_unit u).key; priority = (l.data_unit u).priority; dependency = (l.data_unit u).dependency; bytes = l.part u k }
@@ -162,7 +166,7 @@ link-part l u k = rw (ne_eqb (suc k) 0 (omega arith)) (go (suc k + 1 == l.count 
         linked : (same_flag (l.timed u) (l.timed u) && (l.mpu u == l.mpu u)) ≡ true → media_link (l.timed u) (l.mpu u) (Payload.Media parts.Middle (l.timed u) (l.mpu u) (cut_data_unit l u (suc k) ∷ [])) ≡ Link.Inner (l.part u (suc k))
         linked e = unfold media_link in (rw e refl)
 
-part-at : (broadcast : Broadcast) (l : Layout) (u k : ℕ) → IsLaid broadcast l → u < length broadcast.units → suc k < l.count u → (p : ℕ) → (p ≡ place_of broadcast.cast.packets (l.packet_id u) (l.first u + suc k))
+part-at : (broadcast : Broadcast) (l : Layout) (u k : ℕ) → IsLaid broadcast l → u < length broadcast.units → suc k < l.count u → (p : ℕ) → (p ≡ place_of broadcast.cast.packets.sent (l.packet_id u) (l.first u + suc k))
     → IsAt broadcast.cast.packets p (l.packet_id u) (l.first u + suc k) × (media_link (l.timed u) (l.mpu u) (payload_of broadcast.cast.packets p) ≡ cond (suc k + 1 == l.count u) (Link.End (l.part u (suc k))) (Link.Inner (l.part u (suc k))))
 part-at broadcast l u k laid lu lk p is =
     let e = (laid.unit u lu).each (suc k) lk in
@@ -172,43 +176,54 @@ part-at broadcast l u k laid lu lk p is =
 
 -- the parts of a unit from one of them on are a chain
 chain : (broadcast : Broadcast) (l : Layout) (u : ℕ) → IsLaid broadcast l → u < length broadcast.units → (c j number : ℕ) → number ≡ l.first u + suc j → suc j + suc c ≡ l.count u
-    → IsChain broadcast.cast.packets (media_link (l.timed u) (l.mpu u)) (l.packet_id u) number (map (place_of broadcast.cast.packets (l.packet_id u)) (numbers number (suc c))) (map (l.part u) (numbers (suc j) (suc c)))
+    → IsChain broadcast.cast.packets (media_link (l.timed u) (l.mpu u)) (l.packet_id u) number (map (place_of broadcast.cast.packets.sent (l.packet_id u)) (numbers number (suc c))) (map (l.part u) (numbers (suc j) (suc c)))
 unfolding numbers
 chain broadcast l u laid lu zero j number is sum =
-    let a = part-at broadcast l u j laid lu (omega arith) (place_of broadcast.cast.packets (l.packet_id u) number) (ap (place_of broadcast.cast.packets (l.packet_id u)) is) in
-    (subst (λ n. IsAt broadcast.cast.packets (place_of broadcast.cast.packets (l.packet_id u) number) (l.packet_id u) n) (sym is) a.0,
-      a.1 ∙ ap (λ b. cond b (Link.End (l.part u (suc j))) (Link.Inner (l.part u (suc j)))) (eq-eqb (suc j + 1) (l.count u) (omega arith)))
+    let a = part-at broadcast l u j laid lu (omega arith) (place_of broadcast.cast.packets.sent (l.packet_id u) number) (ap (place_of broadcast.cast.packets.sent (l.packet_id u)) is) in (
+      subst (λ n. IsAt broadcast.cast.packets (place_of broadcast.cast.packets.sent (l.packet_id u) number) (l.packet_id u) n) (sym is) a.0,
+      a.1 ∙ ap (λ b. cond b (Link.End (l.part u (suc j))) (Link.Inner (l.part u (suc j)))) (eq-eqb (suc j + 1) (l.count u) (omega arith)),
+    )
 chain broadcast l u laid lu (suc c) j number is sum =
-    let a = part-at broadcast l u j laid lu (omega arith) (place_of broadcast.cast.packets (l.packet_id u) number) (ap (place_of broadcast.cast.packets (l.packet_id u)) is) in
+    let a = part-at broadcast l u j laid lu (omega arith) (place_of broadcast.cast.packets.sent (l.packet_id u) number) (ap (place_of broadcast.cast.packets.sent (l.packet_id u)) is) in
     let e : next_number number ≡ number + 1 = next_number-low number (omega (arith, is, sum, (laid.unit u lu).low)) in
     let up : suc j + 1 ≡ suc (suc j) = omega arith in
-    let rest = chain broadcast l u laid lu c (suc j) (number + 1) (omega arith) (omega arith) in
-    (subst (λ n. IsAt broadcast.cast.packets (place_of broadcast.cast.packets (l.packet_id u) number) (l.packet_id u) n) (sym is) a.0,
+    let rest = chain broadcast l u laid lu c (suc j) (number + 1) (omega arith) (omega arith) in (
+      subst (λ n. IsAt broadcast.cast.packets (place_of broadcast.cast.packets.sent (l.packet_id u) number) (l.packet_id u) n) (sym is) a.0,
       a.1 ∙ ap (λ b. cond b (Link.End (l.part u (suc j))) (Link.Inner (l.part u (suc j)))) (ne_eqb (suc j + 1) (l.count u) (omega arith)),
-      subst (λ i. IsChain broadcast.cast.packets (media_link (l.timed u) (l.mpu u)) (l.packet_id u) (next_number number) (map (place_of broadcast.cast.packets (l.packet_id u)) (numbers (number + 1) (suc c))) (map (l.part u) (numbers i (suc c)))) (sym up)
-      (subst (λ i. IsChain broadcast.cast.packets (media_link (l.timed u) (l.mpu u)) (l.packet_id u) i (map (place_of broadcast.cast.packets (l.packet_id u)) (numbers (number + 1) (suc c))) (map (l.part u) (numbers (suc (suc j)) (suc c)))) (sym e) rest))
+      subst (λ i. IsChain broadcast.cast.packets (media_link (l.timed u) (l.mpu u)) (l.packet_id u) (next_number number) (map (place_of broadcast.cast.packets.sent (l.packet_id u)) (numbers (number + 1) (suc c))) (map (l.part u) (numbers i (suc c)))) (sym up)
+          (subst (λ i. IsChain broadcast.cast.packets (media_link (l.timed u) (l.mpu u)) (l.packet_id u) i (map (place_of broadcast.cast.packets.sent (l.packet_id u)) (numbers (number + 1) (suc c))) (map (l.part u) (numbers (suc (suc j)) (suc c)))) (sym e) rest),
+    )
 
 -- what a unit is read as, from the packet that it begins in
-unit-is : (broadcast : Broadcast) (l : Layout) (n u : ℕ) (p : ℕ) (b : List ℕ) → IsLaidUnit broadcast l u → (n ≡ place_of broadcast.cast.packets (l.packet_id u) (l.first u)) → IsAt broadcast.cast.packets n (l.packet_id u) (l.first u)
+unit-is : (broadcast : Broadcast) (l : Layout) (n u : ℕ) (p : ℕ) (b : List ℕ) → IsLaidUnit broadcast l u → (n ≡ place_of broadcast.cast.packets.sent (l.packet_id u) (l.first u)) → IsAt broadcast.cast.packets n (l.packet_id u) (l.first u)
     → place_in (l.carries n) u ≡ p → b ≡ (l.data_unit u).bytes → (mpu : ℕ) → mpu ≡ l.mpu u
     → (unit_of broadcast u).value ≡ record { packet_id = (heard_of broadcast.cast.packets n).packet_id; mpu = mpu; key = (l.data_unit u).key; priority = (l.data_unit u).priority; dependency = (l.data_unit u).dependency; number = (heard_of broadcast.cast.packets n).number; place = p; bytes = b }
 unfolding heard_of
 unit-is broadcast l n u p b laid is at e f mpu m =
     laid.value
     ∙ (λ i. record {
-      packet_id = sym at.has_id i; mpu = sym m i; key = (l.data_unit u).key; priority = (l.data_unit u).priority; dependency = (l.data_unit u).dependency;
-      number = sym at.has_number i; place = (ap (λ j. place_in (l.carries j) u) (sym is) ∙ e) i; bytes = sym f i })
+      packet_id = sym at.has_id i;
+      mpu = sym m i;
+      key = (l.data_unit u).key;
+      priority = (l.data_unit u).priority;
+      dependency = (l.data_unit u).dependency;
+      number = sym at.has_number i;
+      place = (ap (λ j. place_in (l.carries j) u) (sym is) ∙ e) i;
+      bytes = sym f i;
+    })
 
-at-first : (broadcast : Broadcast) (l : Layout) (n u : ℕ) → IsLaidUnit broadcast l u → (n ≡ place_of broadcast.cast.packets (l.packet_id u) (l.first u + 0)) → (n ≡ place_of broadcast.cast.packets (l.packet_id u) (l.first u)) × IsAt broadcast.cast.packets n (l.packet_id u) (l.first u)
+at-first : (broadcast : Broadcast) (l : Layout) (n u : ℕ) → IsLaidUnit broadcast l u → (n ≡ place_of broadcast.cast.packets.sent (l.packet_id u) (l.first u + 0)) → (n ≡ place_of broadcast.cast.packets.sent (l.packet_id u) (l.first u)) × IsAt broadcast.cast.packets n (l.packet_id u) (l.first u)
 at-first broadcast l n u laid is =
     let z : l.first u + 0 ≡ l.first u = omega arith in
-    let is' : n ≡ place_of broadcast.cast.packets (l.packet_id u) (l.first u) = is ∙ ap (place_of broadcast.cast.packets (l.packet_id u)) z in
-    (is', subst (λ i. IsAt broadcast.cast.packets i (l.packet_id u) (l.first u)) (sym is')
-      (subst (λ k. IsAt broadcast.cast.packets (place_of broadcast.cast.packets (l.packet_id u) k) (l.packet_id u) k) z (laid.each 0 (omega (arith, laid.some))).0))
+    let is' : n ≡ place_of broadcast.cast.packets.sent (l.packet_id u) (l.first u) = is ∙ ap (place_of broadcast.cast.packets.sent (l.packet_id u)) z in (
+      is',
+      subst (λ i. IsAt broadcast.cast.packets i (l.packet_id u) (l.first u)) (sym is')
+          (subst (λ k. IsAt broadcast.cast.packets (place_of broadcast.cast.packets.sent (l.packet_id u) k) (l.packet_id u) k) z (laid.each 0 (omega (arith, laid.some))).0),
+    )
 
-one-member : (broadcast : Broadcast) (l : Layout) (n u : ℕ) → IsLaidUnit broadcast l u → (n ≡ place_of broadcast.cast.packets (l.packet_id u) (l.first u)) → l.count u ≡ 1 → (unit_of broadcast u).members ≡ n ∷ []
+one-member : (broadcast : Broadcast) (l : Layout) (n u : ℕ) → IsLaidUnit broadcast l u → (n ≡ place_of broadcast.cast.packets.sent (l.packet_id u) (l.first u)) → l.count u ≡ 1 → (unit_of broadcast u).members ≡ n ∷ []
 unfolding numbers
-one-member broadcast l n u laid is one = laid.members ∙ (ap (λ c. map (place_of broadcast.cast.packets (l.packet_id u)) (numbers (l.first u) c)) one ∙ ap (λ x. x ∷ []) (sym is))
+one-member broadcast l n u laid is one = laid.members ∙ (ap (λ c. map (place_of broadcast.cast.packets.sent (l.packet_id u)) (numbers (l.first u) c)) one ∙ ap (λ x. x ∷ []) (sym is))
 
 each-numbers : (P : ℕ → Type 0) (f c : ℕ) → ((u : ℕ) → f ≤ u → u < f + c → P u) → AllByRecursion P (numbers f c)
 unfolding numbers
@@ -254,7 +269,7 @@ fragmented broadcast l n u apart laid ln is =
     let pl : place_in (l.carries n) u ≡ 0 = ap (λ x. place_in x u) is ∙ (unfold place_in in refl) in
     (u, refl, go broadcast l n u laid r.0 unit q.0 q.1 pl (l.count u) refl r.4)
   where
-    go : (broadcast : Broadcast) (l : Layout) (n u : ℕ) → IsLaid broadcast l → u < length broadcast.units → IsLaidUnit broadcast l u → (n ≡ place_of broadcast.cast.packets (l.packet_id u) (l.first u)) → IsAt broadcast.cast.packets n (l.packet_id u) (l.first u) → place_in (l.carries n) u ≡ 0
+    go : (broadcast : Broadcast) (l : Layout) (n u : ℕ) → IsLaid broadcast l → u < length broadcast.units → IsLaidUnit broadcast l u → (n ≡ place_of broadcast.cast.packets.sent (l.packet_id u) (l.first u)) → IsAt broadcast.cast.packets n (l.packet_id u) (l.first u) → place_in (l.carries n) u ≡ 0
         → (c : ℕ) → l.count u ≡ c → 2 ≤ c → IsFragmented broadcast n u (l.timed u) (l.mpu u) (cut_data_unit l u 0)
     go broadcast l n u laid lu unit is at pl zero e h = absurd (omega arith)
     go broadcast l n u laid lu unit is at pl (suc zero) e h = absurd (omega arith)
@@ -263,10 +278,10 @@ fragmented broadcast l n u apart laid ln is =
         let ch = chain broadcast l u laid lu c 0 (l.first u + 1) (omega arith) (omega (arith, e)) in
         let whole : joined (l.part u 0 ∷ map (l.part u) (numbers 1 (suc c))) ≡ (l.data_unit u).bytes = sym (ap (λ k. joined (map (l.part u) (numbers 0 k))) e) ∙ unit.whole in
         record {
-          rest = map (place_of broadcast.cast.packets (l.packet_id u)) (numbers (l.first u + 1) (suc c));
+          rest = map (place_of broadcast.cast.packets.sent (l.packet_id u)) (numbers (l.first u + 1) (suc c));
           parts = map (l.part u) (numbers 1 (suc c));
-          members = unit.members ∙ (ap (λ k. map (place_of broadcast.cast.packets (l.packet_id u)) (numbers (l.first u) k)) e ∙ ap (λ x. x ∷ map (place_of broadcast.cast.packets (l.packet_id u)) (numbers (l.first u + 1) (suc c))) (sym is));
-          chain = chained broadcast l n u (map (place_of broadcast.cast.packets (l.packet_id u)) (numbers (l.first u + 1) (suc c))) (map (l.part u) (numbers 1 (suc c))) at up ch;
+          members = unit.members ∙ (ap (λ k. map (place_of broadcast.cast.packets.sent (l.packet_id u)) (numbers (l.first u) k)) e ∙ ap (λ x. x ∷ map (place_of broadcast.cast.packets.sent (l.packet_id u)) (numbers (l.first u + 1) (suc c))) (sym is));
+          chain = chained broadcast l n u (map (place_of broadcast.cast.packets.sent (l.packet_id u)) (numbers (l.first u + 1) (suc c))) (map (l.part u) (numbers 1 (suc c))) at up ch;
           value = unit-is broadcast l n u 0 (joined (l.part u 0 ∷ map (l.part u) (numbers 1 (suc c)))) unit is at pl whole (l.mpu u) refl;
         }
 
@@ -287,16 +302,17 @@ begins-by broadcast l n apart laid ln (Carries.Fragment u (suc k)) is = rw (ne_e
     go true = refl
     go false = refl
 begins-by broadcast l n apart laid ln (Carries.Group f c) is =
-    let r = subst (IsPlaced broadcast l (get_or broadcast.cast.packets.sent n no_packet).packet_id (get_or broadcast.cast.packets.sent n no_packet).number) is (laid.placed n ln) in
-    (group-values broadcast l n f c apart laid ln is r c f 0 (omega arith) (omega arith),
+    let r = subst (IsPlaced broadcast l (get_or broadcast.cast.packets.sent n no_packet).packet_id (get_or broadcast.cast.packets.sent n no_packet).number) is (laid.placed n ln) in (
+      group-values broadcast l n f c apart laid ln is r c f 0 (omega arith) (omega arith),
       each-numbers (λ u. (unit_of broadcast u).members ≡ n ∷ []) f c
-      (λ u a b.
-        let s = r.1 u a b in
-        let lu : u < length broadcast.units = omega (arith, r.0) in
-        let unit = laid.unit u lu in
-        let has : has_part u 0 (l.carries n) ≡ true = ap (has_part u 0) is ∙ group-has u f c a b in
-        let p = place-part broadcast l n u 0 apart laid ln has (omega (arith, unit.some)) in
-        one-member broadcast l n u unit (at-first broadcast l n u unit p.1).0 s.2))
+          (λ u a b.
+          let s = r.1 u a b in
+          let lu : u < length broadcast.units = omega (arith, r.0) in
+          let unit = laid.unit u lu in
+          let has : has_part u 0 (l.carries n) ≡ true = ap (has_part u 0) is ∙ group-has u f c a b in
+          let p = place-part broadcast l n u 0 apart laid ln has (omega (arith, unit.some)) in
+          one-member broadcast l n u unit (at-first broadcast l n u unit p.1).0 s.2),
+    )
 begins-by broadcast l n apart laid ln (Carries.Parameters bytes) is = refl
 begins-by broadcast l n apart laid ln (Carries.Table c) is = refl
 begins-by broadcast l n apart laid ln (Carries.TablePart c k) is = refl

@@ -4,26 +4,25 @@ use Rattle.std.specs.List.{list_any, list_all, flat_map}
 use Rattle.std.proofs.lemmas.Bool.Decides.{nat_tests}
 use Rattle.std.proofs.lemmas.Bool.{cases_eq, eq-eqb, ne_eqb, and_parts, and_from, and_cases, not-false, eqb-true, or_cases, or_right, or_left, cases_Bool, ltb-true, leb-true, lt-ltb, le-leb, cases_lt, false_from_ne_true, or_parts}
 use Rattle.std.proofs.lemmas.List.Sums.{sum_by-cons}
+use Rattle.std.specs.List.{AllByRecursion}
 use Rattle.mmt_base.proofs.TickLemmas.{is_after-low, is_passed-low}
 use Rattle.mmt_base.specs.Ticks.{is_after, is_passed, low}
-use Rattle.mmt_delivery.proofs.Admitting.{naming, sound}
 use Rattle.mmt_delivery.proofs.Held.{begins-older, held, occurrences-held, place_before, within}
 use Rattle.mmt_delivery.proofs.Kept.{any-map, as_number-true, below_from_times, clock-low, filter-map, goes, held_facts, kept-held, map-push, survives-latest}
 use Rattle.mmt_delivery.proofs.Known.{is_new, known, learned, occurrences-known, occurrences-learned}
 use Rattle.mmt_delivery.proofs.Loads.{AllBelow, sum_by-occurrences, upto, upto-le}
 use Rattle.mmt_delivery.proofs.Premises.{Begins, IsNaming, IsNear, IsRightCopy, IsSound, names_made_known}
-use Rattle.mmt_delivery.proofs.Telling.{telling}
 use Rattle.mmt_delivery.proofs.Tests.{all-at, any-mono, any-some, each-at, member-occurrences}
 use Rattle.mmt_model.proofs.Counting.{occurrences-push}
 use Rattle.mmt_model.proofs.Inserting.{occurrences-insert}
-use Rattle.mmt_model.specs.Broadcast.{NamedCast, count_below, due_at, entry_of, is_named_from, last_at}
+use Rattle.mmt_model.specs.Broadcast.{CopyPlaces, NamedCast, count_below, due_at, entry_of, is_named_from, last_at}
 use Rattle.mmt_model.specs.Counts.{as_number, member, occurrences}
 use Rattle.mmt_model.specs.Entries.{Entry, entries, forget, is_of_same_mpu, last_due, learn, learn_one, names_if_stored}
 use Rattle.mmt_model.specs.Expected.{is_complete, is_named}
 use Rattle.mmt_model.specs.Keeping.{Outcome, clock, kept, outcome, still_kept}
 use Rattle.mmt_model.specs.Packets.{Heard}
 use Rattle.mmt_model.specs.Sorted.{insert_by}
-use Rattle.mmt_model.specs.Survival.{AreOf, heard_of, latest, sent_at, survives}
+use Rattle.mmt_model.specs.Survival.{AreOf, SentPackets, heard_of, latest, sent_at, survives}
 use Rattle.mmt_model.specs.declared.programmes.Params.{Params}
 use Rattle.mmt_model.specs.declared.keys.Part.TheVariants as parts
 
@@ -38,23 +37,25 @@ best P key p [] e a = absurd cc
 best P key p (c ∷ cs) e a =
     ⊎_elim
     (λ (later : list_any p cs ≡ true).
-      let b = best P key p cs e.1 later in
-      ⊎_elim
-      (λ (lt : key b.0 < key c). ⊎_elim
-        (λ (t : p c ≡ true). (c, e.0, t, (λ h. omega arith, weaker P key p cs (key b.0) (key c) (omega arith) b.3)))
-        (λ (f : p c ≡ false). (b.0, b.1, b.2, (λ h. absurd (cc (h, f)), b.3)))
-        (cases_Bool (p c)))
-      (λ (le : key c ≤ key b.0). (b.0, b.1, b.2, (λ h. le, b.3)))
-      (cases_lt (key b.0) (key c)))
+    let b = best P key p cs e.1 later in
+    ⊎_elim
+    (λ (lt : key b.0 < key c). ⊎_elim
+    (λ (t : p c ≡ true). (c, e.0, t, (λ h. omega arith, weaker P key p cs (key b.0) (key c) (omega arith) b.3)))
+    (λ (f : p c ≡ false). (b.0, b.1, b.2, (λ h. absurd (cc (h, f)), b.3)))
+    (cases_Bool (p c)))
+    (λ (le : key c ≤ key b.0). (b.0, b.1, b.2, (λ h. le, b.3)))
+    (cases_lt (key b.0) (key c)))
     (λ (none : list_any p cs ≡ false). (c, e.0, first (p c) a none, (λ h. omega arith, lone P key p cs (key c) none)))
     (cases_Bool (list_any p cs))
   where
     weaker : {C : Type 0} (P : C → Type 0) (key : C → ℕ) (p : C → Bool) (cs : List C) (a b : ℕ) → a ≤ b → AllByRecursion (λ d. p d ≡ true → key d ≤ a) cs → AllByRecursion (λ d. p d ≡ true → key d ≤ b) cs
     weaker P key p [] a b le e = tt
     weaker P key p (d ∷ cs) a b le e = (λ h. (let k = e.0 h in omega arith), weaker P key p cs a b le e.1)
+
     first : (x : Bool) → (x || list_any p cs) ≡ true → list_any p cs ≡ false → x ≡ true
     first true a n = refl
     first false a n = absurd (cc (a, n))
+
     lone : {C : Type 0} (P : C → Type 0) (key : C → ℕ) (p : C → Bool) (cs : List C) (b : ℕ) → list_any p cs ≡ false → AllByRecursion (λ d. p d ≡ true → key d ≤ b) cs
     lone P key p [] b n = tt
     lone P key p (d ∷ cs) b n = let q = or_parts (p d) (list_any p cs) n in (λ h. absurd (cc (h, q.0)), lone P key p cs b q.1)
@@ -107,11 +108,11 @@ named_facts cast r start hist m naming h =
     record {
       known = each-at (λ m. m < length cast.mpus) c.names m w.1.known both.0;
       soon = at_first c.members w.1.some (λ k mem.
-        (let s = survives-latest cast.packets r.delay start hist k (all-at (survives cast.packets.sent r.delay hist) c.members k both.1 mem) in
-        let d : due_at cast m ≤ sent_at cast.packets.sent k + 2 ^ 30 = each-at (λ m. due_at cast m ≤ sent_at cast.packets.sent k + 2 ^ 30) c.names m (each-at (λ n. AllByRecursion (λ m. due_at cast m ≤ sent_at cast.packets.sent n + 2 ^ 30) c.names) c.members k w.1.soon mem) both.0 in
-        omega (arith, s, d)));
+          (let s = survives-latest cast.packets r.delay start hist k (all-at (survives cast.packets.sent r.delay hist) c.members k both.1 mem) in
+          let d : due_at cast m ≤ sent_at cast.packets.sent k + 2 ^ 30 = each-at (λ m. due_at cast m ≤ sent_at cast.packets.sent k + 2 ^ 30) c.names m (each-at (λ n. AllByRecursion (λ m. due_at cast m ≤ sent_at cast.packets.sent n + 2 ^ 30) c.names) c.members k w.1.soon mem) both.0 in
+          omega (arith, s, d)));
       complete = any-mono (IsRightCopy cast r) (λ c. member m c.names && list_all (survives cast.packets.sent r.delay hist) c.members) (λ c. list_all (survives cast.packets.sent r.delay hist) c.members) cast.copies naming.right
-        (λ d rt t. (and_parts (member m d.names) (list_all (survives cast.packets.sent r.delay hist) d.members) t).1) h;
+          (λ d rt t. (and_parts (member m d.names) (list_all (survives cast.packets.sent r.delay hist) d.members) t).1) h;
     }
   where
     at_first : (ks : List ℕ) → 0 < length ks → ((k : ℕ) → member k ks ≡ true → due_at cast m ≤ latest cast.packets.sent start hist + 2 ^ 30) → due_at cast m ≤ latest cast.packets.sent start hist + 2 ^ 30
@@ -125,8 +126,8 @@ named_from cast r hist k tick e n =
     any-mono (λ c. is_complete cast r.delay hist c.members ≡ true → last_at cast c.members ≤ tick)
     (λ c. member k c.names && is_complete cast r.delay hist c.members) (λ c. member k c.names && nat_le (last_at cast c.members) tick) cast.copies e
     (λ c before t.
-      let p = and_parts (member k c.names) (is_complete cast r.delay hist c.members) t in
-      and_from (member k c.names) (nat_le (last_at cast c.members) tick) p.0 (le-leb (last_at cast c.members) tick (before p.1)))
+    let p = and_parts (member k c.names) (is_complete cast r.delay hist c.members) t in
+    and_from (member k c.names) (nat_le (last_at cast c.members) tick) p.0 (le-leb (last_at cast c.members) tick (before p.1)))
     n
 
 some_complete : (cast : NamedCast) (r : Params) (start : ℕ) (hist : List ℕ) (xs : List ℕ) → IsNaming cast r
@@ -137,17 +138,17 @@ some_complete cast r start hist xs naming h t =
     let tick : ℕ = last_at cast (b.0).members in
     let q : ℕ → Bool = λ m. is_named_from cast tick m && nat_lt tick (due_at cast m) in
     let early : tick ≤ latest cast.packets.sent start hist =
-      last_at-le cast (b.0).members (latest cast.packets.sent start hist) (λ k m. survives-latest cast.packets r.delay start hist k (all-at (survives cast.packets.sent r.delay hist) (b.0).members k (unfold is_complete in b.2) m)) in
+    last_at-le cast (b.0).members (latest cast.packets.sent start hist) (λ k m. survives-latest cast.packets r.delay start hist k (all-at (survives cast.packets.sent r.delay hist) (b.0).members k (unfold is_complete in b.2) m)) in
     let le : (k : ℕ) → occurrences k xs ≤ as_number (q k) = λ k.
-      (let parts : (is_named cast r.delay hist k && nat_lt (latest cast.packets.sent start hist) (due_at cast k)) ≡ true → q k ≡ true =
-          λ t. (let p = and_parts (is_named cast r.delay hist k) (nat_lt (latest cast.packets.sent start hist) (due_at cast k)) t in
-            let l = ltb-true (latest cast.packets.sent start hist) (due_at cast k) p.1 in
-            and_from (is_named_from cast tick k) (nat_lt tick (due_at cast k))
-            (named_from cast r hist k tick b.3 p.0)
-            (lt-ltb tick (due_at cast k) (omega arith))) in
-        omega (arith, h k, as_number-le (is_named cast r.delay hist k && nat_lt (latest cast.packets.sent start hist) (due_at cast k)) (q k) parts)) in
+    (let parts : (is_named cast r.delay hist k && nat_lt (latest cast.packets.sent start hist) (due_at cast k)) ≡ true → q k ≡ true =
+    λ t. (let p = and_parts (is_named cast r.delay hist k) (nat_lt (latest cast.packets.sent start hist) (due_at cast k)) t in
+    let l = ltb-true (latest cast.packets.sent start hist) (due_at cast k) p.1 in
+    and_from (is_named_from cast tick k) (nat_lt tick (due_at cast k))
+    (named_from cast r hist k tick b.3 p.0)
+    (lt-ltb tick (due_at cast k) (omega arith))) in
+    omega (arith, h k, as_number-le (is_named cast r.delay hist k && nat_lt (latest cast.packets.sent start hist) (due_at cast k)) (q k) parts)) in
     let below : AllBelow (length cast.mpus) xs = below_from_times (length cast.mpus) xs
-      (λ k l. (named_facts cast r start hist k naming (and_parts (is_named cast r.delay hist k) (nat_lt (latest cast.packets.sent start hist) (due_at cast k)) (as_number-true (is_named cast r.delay hist k && nat_lt (latest cast.packets.sent start hist) (due_at cast k)) (omega (arith, h k)))).0).known) in
+    (λ k l. (named_facts cast r start hist k naming (and_parts (is_named cast r.delay hist k) (nat_lt (latest cast.packets.sent start hist) (due_at cast k)) (as_number-true (is_named cast r.delay hist k && nat_lt (latest cast.packets.sent start hist) (due_at cast k)) (omega (arith, h k)))).0).known) in
     omega (arith, length-le-count q (length cast.mpus) xs below le, b.1.few)
 
 none_complete : (cast : NamedCast) (r : Params) (start : ℕ) (hist : List ℕ) (xs : List ℕ) → IsNaming cast r
@@ -174,10 +175,10 @@ unfolding is_of_same_mpu member
 has_entry cast r m xs naming lm below =
     any-map (entry_of cast) (is_of_same_mpu (entry_of cast m)) (λ k. k == m) xs
     (λ k l. ⊎_elim
-      (λ (e : k ≡ m). rw (eq-eqb k m e, ap (λ i. (entry_of cast i).packet_id) e, ap (λ i. (entry_of cast i).mpu) e) (grind (arith, nat_tests)))
-      (λ (ne : k ≡ m → ⊥). rw (ne_eqb k m ne)
-        (different (entry_of cast k).packet_id (entry_of cast m).packet_id (entry_of cast k).mpu (entry_of cast m).mpu (λ a b. ne (naming.one_mpu k m (below k l) lm a b))))
-      (cases_eq k m))
+    (λ (e : k ≡ m). rw (eq-eqb k m e, ap (λ i. (entry_of cast i).packet_id) e, ap (λ i. (entry_of cast i).mpu) e) (grind (arith, nat_tests)))
+    (λ (ne : k ≡ m → ⊥). rw (ne_eqb k m ne)
+    (different (entry_of cast k).packet_id (entry_of cast m).packet_id (entry_of cast k).mpu (entry_of cast m).mpu (λ a b. ne (naming.one_mpu k m (below k l) lm a b))))
+    (cases_eq k m))
   where
     different : (a b c d : ℕ) → (a ≡ b → c ≡ d → ⊥) → ((a == b) && (c == d)) ≡ false
     different a b c d h = grind (arith, nat_tests)
@@ -208,7 +209,7 @@ learn_one-map : (cast : NamedCast) (r : Params) (now : ℕ) (live : ℕ → Bool
 unfolding learn_one due_at
 learn_one-map cast r now live xs m naming known few hx lm b e =
     let has : list_any (is_of_same_mpu (entry_of cast m)) (map (entry_of cast) xs) ≡ b =
-      has_entry cast r m xs naming (known m lm).0 (λ k l. (known k (as_number-true (live k) (omega (arith, hx k)))).0) ∙ e in
+    has_entry cast r m xs naming (known m lm).0 (λ k l. (known k (as_number-true (live k) (omega (arith, hx k)))).0) ∙ e in
     rw ((known m lm).1, has) (short b e)
   where
     short : (b : Bool) → member m xs ≡ b
@@ -230,26 +231,26 @@ learn-map cast r now live xs [] naming known few hx hm = refl
 learn-map cast r now live xs (m ∷ ms) naming known few hx hm =
     let lm : live m ≡ true = hm m (first_member m ms) in
     let one : learn_one (low now) (map (entry_of cast) xs) (entry_of cast m) ≡ map (entry_of cast) (cond (not (member m xs)) (xs ++ m ∷ []) xs) =
-      learn_one-map cast r now live xs m naming known few hx lm (member m xs) refl in
+    learn_one-map cast r now live xs m naming known few hx lm (member m xs) refl in
     let hx' : (k : ℕ) → occurrences k (cond (not (member m xs)) (xs ++ m ∷ []) xs) ≤ as_number (live k) = λ k. pushed live xs m hx lm k (member m xs) refl in
     ap (λ l. learn (low now) l (map (entry_of cast) ms)) one
     ∙ learn-map cast r now live (cond (not (member m xs)) (xs ++ m ∷ []) xs) ms naming known few hx' (λ k h. hm k (later_member k m ms h))
 
 forget-map : (cast : NamedCast) (r : Params) (start n : ℕ) (older : List ℕ) → r.delay < r.window → IsNaming cast r → AreOf cast.packets.sent older → Begins cast.packets.sent start older → IsNear cast.packets.sent start (n ∷ older)
     → forget (low (latest cast.packets.sent start older)) (low (latest cast.packets.sent start (n ∷ older))) (map (entry_of cast) (known cast r start older))
-      ≡ map (entry_of cast) (filter (λ m. nat_lt (latest cast.packets.sent start (n ∷ older)) (due_at cast m)) (known cast r start older))
+    ≡ map (entry_of cast) (filter (λ m. nat_lt (latest cast.packets.sent start (n ∷ older)) (due_at cast m)) (known cast r start older))
 unfolding forget latest last_due due_at
 forget-map cast r start n older dw naming o b near =
     let L : ℕ = latest cast.packets.sent start older in
     let now : ℕ = max L (sent_at cast.packets.sent n) in
     filter-map (entry_of cast) (λ e. not (is_passed (low (last_due e)) (low L) (low now))) (λ m. nat_lt now (due_at cast m)) (known cast r start older)
     (λ m t.
-      let both = and_parts (is_named cast r.delay older m) (nat_lt L (due_at cast m)) (as_number-true (is_named cast r.delay older m && nat_lt L (due_at cast m)) (omega (arith, occurrences-known cast r start older m dw naming o b))) in
-      let l : L < due_at cast m = ltb-true L (due_at cast m) both.1 in
-      let s : due_at cast m ≤ L + 2 ^ 30 = (named_facts cast r start older m naming both.0).soon in
-      let p : is_passed (low (due_at cast m)) (low L) (low now) ≡ (nat_lt L (due_at cast m) && nat_le (due_at cast m) now) =
-        is_passed-low (due_at cast m) L now (omega arith) (omega arith) (omega (arith, near.1)) (omega arith) in
-      ap not p ∙ (ap (λ x. not (x && nat_le (due_at cast m) now)) both.1 ∙ turned (due_at cast m) now))
+    let both = and_parts (is_named cast r.delay older m) (nat_lt L (due_at cast m)) (as_number-true (is_named cast r.delay older m && nat_lt L (due_at cast m)) (omega (arith, occurrences-known cast r start older m dw naming o b))) in
+    let l : L < due_at cast m = ltb-true L (due_at cast m) both.1 in
+    let s : due_at cast m ≤ L + 2 ^ 30 = (named_facts cast r start older m naming both.0).soon in
+    let p : is_passed (low (due_at cast m)) (low L) (low now) ≡ (nat_lt L (due_at cast m) && nat_le (due_at cast m) now) =
+    is_passed-low (due_at cast m) L now (omega arith) (omega arith) (omega (arith, near.1)) (omega arith) in
+    ap not p ∙ (ap (λ x. not (x && nat_le (due_at cast m) now)) both.1 ∙ turned (due_at cast m) now))
   where
     turned : (d now : ℕ) → not (nat_le d now) ≡ nat_lt now d
     turned d now = grind (arith, nat_tests)
@@ -280,7 +281,7 @@ held-new cast r start n older new =
 names_by-new : (names_by : List Heard → Heard → List Entry) (cast : NamedCast) (r : Params) (start n : ℕ) (older : List ℕ) → IsTelling names_by cast → r.delay < r.window → AreOf cast.packets.sent (n ∷ older) → Begins cast.packets.sent start (n ∷ older)
     → (new : Bool) → is_new cast r start n older ≡ new
     → cond new (names_by (map (heard_of cast.packets) (held cast.packets r start (n ∷ older))) (heard_of cast.packets n)) []
-      ≡ map (entry_of cast) (cond new (names_made_known cast (held cast.packets r start (n ∷ older)) n) [])
+    ≡ map (entry_of cast) (cond new (names_made_known cast (held cast.packets r start (n ∷ older)) n) [])
 names_by-new names_by cast r start n older telling dw o b true e =
     telling.told (held cast.packets r start (n ∷ older)) n
     (λ k. omega (arith, occurrences-held cast.packets r start (n ∷ older) k dw b, bit_le_one (survives cast.packets.sent r.delay (n ∷ older) k && nat_lt (latest cast.packets.sent start (n ∷ older)) (sent_at cast.packets.sent k + r.window))))
@@ -297,9 +298,9 @@ learned-more k xs ms = rw (occurrences-learned k xs ms) (go (member k ms))
 
 learn-known : (cast : NamedCast) (r : Params) (start n : ℕ) (older : List ℕ) → r.delay < r.window → IsNaming cast r → AreOf cast.packets.sent (n ∷ older) → Begins cast.packets.sent start (n ∷ older)
     → learn (low (latest cast.packets.sent start (n ∷ older)))
-        (map (entry_of cast) (filter (λ m. nat_lt (latest cast.packets.sent start (n ∷ older)) (due_at cast m)) (known cast r start older)))
-        (map (entry_of cast) (cond (is_new cast r start n older) (names_made_known cast (held cast.packets r start (n ∷ older)) n) []))
-      ≡ map (entry_of cast) (known cast r start (n ∷ older))
+    (map (entry_of cast) (filter (λ m. nat_lt (latest cast.packets.sent start (n ∷ older)) (due_at cast m)) (known cast r start older)))
+    (map (entry_of cast) (cond (is_new cast r start n older) (names_made_known cast (held cast.packets r start (n ∷ older)) n) []))
+    ≡ map (entry_of cast) (known cast r start (n ∷ older))
 unfolding known
 learn-known cast r start n older dw naming o b =
     let now : ℕ = latest cast.packets.sent start (n ∷ older) in
@@ -309,10 +310,10 @@ learn-known cast r start n older dw naming o b =
     let all : (k : ℕ) → occurrences k (learned left ms) ≡ as_number (live k) = λ k. occurrences-known cast r start (n ∷ older) k dw naming o b in
     learn-map cast r now live left ms naming
     (λ k t.
-      let p = and_parts (is_named cast r.delay (n ∷ older) k) (nat_lt now (due_at cast k)) t in
-      let f = named_facts cast r start (n ∷ older) k naming p.0 in
-      let l = ltb-true now (due_at cast k) p.1 in
-      (f.known, is_after-low (due_at cast k) now (omega (arith, f.soon)) (omega arith) ∙ p.1))
+    let p = and_parts (is_named cast r.delay (n ∷ older) k) (nat_lt now (due_at cast k)) t in
+    let f = named_facts cast r start (n ∷ older) k naming p.0 in
+    let l = ltb-true now (due_at cast k) p.1 in
+    (f.known, is_after-low (due_at cast k) now (omega (arith, f.soon)) (omega arith) ∙ p.1))
     (λ ys h. few_live cast r start (n ∷ older) ys naming h)
     (λ k. omega (arith, learned-more k left ms, all k))
     (λ k m. as_number-true (live k) (omega (arith, all k, occurrences-learned k left ms, ap (λ x. cond x (max 1 (occurrences k left)) (occurrences k left)) m)))
@@ -335,11 +336,11 @@ entries-known names_by cast r start (n ∷ older) sound naming telling o b near 
     let g = goes p r start n older sound o b near (kept-held p r start older sound o.1 bo near.0) in
     let ih = entries-known names_by cast r start older sound naming telling o.1 bo near.0 in
     let forgotten : forget (clock (low start) (map (heard_of p) older)) (clock (low start) (map (heard_of p) (n ∷ older))) (entries names_by r (low start) (map (heard_of p) older))
-        ≡ map (entry_of cast) (filter (λ m. nat_lt now (due_at cast m)) (known cast r start older)) =
-      (λ i. forget (c0 i) (c1 i) (ih i)) ∙ forget-map cast r start n older sound.short_delay naming o.1 bo near in
+    ≡ map (entry_of cast) (filter (λ m. nat_lt now (due_at cast m)) (known cast r start older)) =
+    (λ i. forget (c0 i) (c1 i) (ih i)) ∙ forget-map cast r start n older sound.short_delay naming o.1 bo near in
     let told : names_if_stored (outcome r (clock (low start) (map (heard_of p) (n ∷ older))) (still_kept r (clock (low start) (map (heard_of p) (n ∷ older))) (kept r (low start) (map (heard_of p) older))) h) (names_by (kept r (low start) (map (heard_of p) (n ∷ older))) h)
-        ≡ map (entry_of cast) (cond (t && not a) (names_made_known cast (held p r start (n ∷ older)) n) []) =
-      (λ i. names_if_stored (((λ j. outcome r (c1 j) (g.rest j) h) ∙ g.fated) i) (names_by (g.next_number i) h))
-      ∙ (names_if_stored-cond t a (names_by (map (heard_of p) (held p r start (n ∷ older))) h)
-      ∙ names_by-new names_by cast r start n older telling sound.short_delay o b (t && not a) refl) in
+    ≡ map (entry_of cast) (cond (t && not a) (names_made_known cast (held p r start (n ∷ older)) n) []) =
+    (λ i. names_if_stored (((λ j. outcome r (c1 j) (g.rest j) h) ∙ g.fated) i) (names_by (g.next_number i) h))
+    ∙ (names_if_stored-cond t a (names_by (map (heard_of p) (held p r start (n ∷ older))) h)
+    ∙ names_by-new names_by cast r start n older telling sound.short_delay o b (t && not a) refl) in
     (λ i. learn (c1 i) (forgotten i) (told i)) ∙ learn-known cast r start n older sound.short_delay naming o b

@@ -13,7 +13,5 @@ pub mod Finding
 pub mod Telling
 pub mod Admitting
 pub mod Delivering
-pub mod Examples
-pub mod ExampleFits
 pub mod Laying
 pub mod LayingTables

@@ -35,13 +35,13 @@ upto-one f p zero l = absurd (omega arith)
 upto-one f p (suc n) l =
     ⊎_elim
     (λ (e : p ≡ n).
-      let z : upto (λ k. as_number (p == k) * f k) n ≡ 0 = upto-zero (λ k. as_number (p == k) * f k) n (λ k m. rw (ne_eqb p k (omega arith)) (omega arith)) in
-      let o : as_number (p == n) * f n ≡ f p = rw (eq-eqb p n e, e) (omega arith) in
-      omega arith)
+    let z : upto (λ k. as_number (p == k) * f k) n ≡ 0 = upto-zero (λ k. as_number (p == k) * f k) n (λ k m. rw (ne_eqb p k (omega arith)) (omega arith)) in
+    let o : as_number (p == n) * f n ≡ f p = rw (eq-eqb p n e, e) (omega arith) in
+    omega arith)
     (λ (ne : p ≡ n → ⊥).
-      let ih : upto (λ k. as_number (p == k) * f k) n ≡ f p = upto-one f p n (omega arith) in
-      let o : as_number (p == n) * f n ≡ 0 = rw (ne_eqb p n ne) (omega arith) in
-      omega arith)
+    let ih : upto (λ k. as_number (p == k) * f k) n ≡ f p = upto-one f p n (omega arith) in
+    let o : as_number (p == n) * f n ≡ 0 = rw (ne_eqb p n ne) (omega arith) in
+    omega arith)
     (cases_eq p n)
 
 -- a sum over a list by how often each number stands in it
@@ -72,5 +72,5 @@ pub sum_by-le-passing : {X : Type 0} (q : X → Bool) (f : X → ℕ) (xs : List
     → sum_by (λ k. f (get_or xs k d)) ks ≤ sum_by f (filter q xs)
 sum_by-le-passing q f xs d ks b h =
     let le : upto (λ k. occurrences k ks * f (get_or xs k d)) (length xs) ≤ upto (λ k. as_number (q (get_or xs k d)) * f (get_or xs k d)) (length xs) =
-      upto-le (λ k. occurrences k ks * f (get_or xs k d)) (λ k. as_number (q (get_or xs k d)) * f (get_or xs k d)) (length xs) (λ k l. grind (arith, h k)) in
+    upto-le (λ k. occurrences k ks * f (get_or xs k d)) (λ k. as_number (q (get_or xs k d)) * f (get_or xs k d)) (length xs) (λ k l. grind (arith, h k)) in
     omega (arith, sum_by-occurrences (λ k. f (get_or xs k d)) (length xs) ks b, sum_by-places q f xs d, le)

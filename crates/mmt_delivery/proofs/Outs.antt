@@ -3,9 +3,7 @@ use Rattle.std.proofs.Common.{◌≡◌, ℕ, ◌+◌, ◌-◌, ◌*◌, ◌/◌
 use Rattle.std.specs.List.{list_any, list_all, flat_map}
 use Rattle.std.proofs.lemmas.Bool.Decides.{nat_tests}
 use Rattle.std.proofs.lemmas.Bool.{cases_eq, eq-eqb, ne_eqb, and_parts, and_from, or_cases, or_right, or_left, cases_Bool, ltb-true, leb-true, lt-ltb, le-ltb, le-leb, lt-leb, cases_lt}
-use Rattle.mmt_delivery.proofs.Admitting.{playing}
 use Rattle.mmt_delivery.proofs.Expecting.{complete-none, due-mono, due_of_unit-le, expected-early, expected-over, is_ready}
-use Rattle.mmt_delivery.proofs.Finding.{found}
 use Rattle.mmt_delivery.proofs.Held.{begins-older, held, occurrences-held}
 use Rattle.mmt_delivery.proofs.Kept.{as_number-true, held_facts, times_of_filter}
 use Rattle.mmt_delivery.proofs.Known.{known, occurrences-known}
@@ -43,13 +41,13 @@ unfoldable pub hand : (List ℕ → List ℕ) → Broadcast → Params → ℕ �
 hand found broadcast r start n older =
     sort_by (in_order broadcast)
     (filter (λ u. nat_lt (latest broadcast.cast.packets.sent start older) (due_of_unit broadcast u) && nat_le (due_of_unit broadcast u) (latest broadcast.cast.packets.sent start (n ∷ older)))
-      (named broadcast r start older (found (held broadcast.cast.packets r start older))))
+    (named broadcast r start older (found (held broadcast.cast.packets r start older))))
 
 unfoldable pub last : (List ℕ → List ℕ) → Broadcast → Params → ℕ → List ℕ → List ℕ
 last found broadcast r start hist =
     sort_by (in_order broadcast)
     (filter (λ u. nat_lt (latest broadcast.cast.packets.sent start hist) (due_of_unit broadcast u))
-      (named broadcast r start hist (found (held broadcast.cast.packets r start hist))))
+    (named broadcast r start hist (found (held broadcast.cast.packets r start hist))))
 
 unfoldable pub outs : (List ℕ → List ℕ) → Broadcast → Params → ℕ → List ℕ → List ℕ
 outs found broadcast r start [] = []
@@ -88,19 +86,19 @@ ready-early units broadcast r found start hist u set o b lu early =
     let right = set.playing.right u lu in
     let S : ℕ → Bool = survives p.sent r.delay hist in
     let whole : list_all (λ k. member k H) ms ≡ list_all S ms =
-      same_tests (list_all (λ k. member k H) ms) (list_all S ms)
-      (λ h. all-from S ms (λ k mem. (held_facts p r start hist k set.short o b (ltb-true 0 (occurrences k H) (sym (member-occurrences k H) ∙ all-at (λ k. member k H) ms k h mem))).survived))
-      (λ h. all-from (λ k. member k H) ms
-        (λ k mem.
-          let g : due_of_unit broadcast u ≤ sent_at p.sent k + r.window = each-at (λ n. due_of_unit broadcast u ≤ sent_at p.sent n + r.window) ms k right.not_gone mem in
-          let w : nat_lt (latest p.sent start hist) (sent_at p.sent k + r.window) ≡ true = lt-ltb (latest p.sent start hist) (sent_at p.sent k + r.window) (omega arith) in
-          let one : occurrences k H ≡ 1 = occurrences-held p r start hist k set.short b ∙ ap₂ (λ x y. as_number (x && y)) (all-at S ms k h mem) w in
-          member-occurrences k H ∙ ap (nat_lt 0) one)) in
+    same_tests (list_all (λ k. member k H) ms) (list_all S ms)
+    (λ h. all-from S ms (λ k mem. (held_facts p r start hist k set.short o b (ltb-true 0 (occurrences k H) (sym (member-occurrences k H) ∙ all-at (λ k. member k H) ms k h mem))).survived))
+    (λ h. all-from (λ k. member k H) ms
+    (λ k mem.
+    let g : due_of_unit broadcast u ≤ sent_at p.sent k + r.window = each-at (λ n. due_of_unit broadcast u ≤ sent_at p.sent n + r.window) ms k right.not_gone mem in
+    let w : nat_lt (latest p.sent start hist) (sent_at p.sent k + r.window) ≡ true = lt-ltb (latest p.sent start hist) (sent_at p.sent k + r.window) (omega arith) in
+    let one : occurrences k H ≡ 1 = occurrences-held p r start hist k set.short b ∙ ap₂ (λ x y. as_number (x && y)) (all-at S ms k h mem) w in
+    member-occurrences k H ∙ ap (nat_lt 0) one)) in
     let live : nat_lt (latest p.sent start hist) (due_at broadcast.cast m) ≡ true = lt-ltb (latest p.sent start hist) (due_at broadcast.cast m) (omega (arith, due_of_unit-le broadcast u)) in
     let name : member m (known broadcast.cast r start hist) ≡ is_named broadcast.cast r.delay hist m =
-      member-occurrences m (known broadcast.cast r start hist)
-      ∙ (ap (nat_lt 0) (occurrences-known broadcast.cast r start hist m set.short set.naming o b ∙ ap (λ x. as_number (is_named broadcast.cast r.delay hist m && x)) live)
-      ∙ back (is_named broadcast.cast r.delay hist m)) in
+    member-occurrences m (known broadcast.cast r start hist)
+    ∙ (ap (nat_lt 0) (occurrences-known broadcast.cast r start hist m set.short set.naming o b ∙ ap (λ x. as_number (is_named broadcast.cast r.delay hist m && x)) live)
+    ∙ back (is_named broadcast.cast r.delay hist m)) in
     ap₂ (λ x y. (x && list_all (λ k. member k H) ms) && y) (lt-ltb u (length broadcast.units) lu) name ∙ ap (λ x. x && is_named broadcast.cast r.delay hist m) whole
   where
     back : (b : Bool) → nat_lt 0 (as_number (b && true)) ≡ b
@@ -110,19 +108,19 @@ ready-early units broadcast r found start hist u set o b lu early =
 -- how often a unit stands among those that are found and named
 pub occurrences-named : (units : List Heard → List MediaUnit) (broadcast : Broadcast) (r : Params) (found : List ℕ → List ℕ) (start : ℕ) (hist : List ℕ) (u : ℕ) → IsSet units broadcast r found → AreOf broadcast.cast.packets.sent hist → Begins broadcast.cast.packets.sent start hist
     → occurrences u (named broadcast r start hist (found (held broadcast.cast.packets r start hist)))
-      ≡ as_number ((nat_lt u (length broadcast.units) && list_all (λ k. member k (held broadcast.cast.packets r start hist)) (unit_of broadcast u).members) && member (unit_of broadcast u).mpu (known broadcast.cast r start hist))
+    ≡ as_number ((nat_lt u (length broadcast.units) && list_all (λ k. member k (held broadcast.cast.packets r start hist)) (unit_of broadcast u).members) && member (unit_of broadcast u).mpu (known broadcast.cast r start hist))
 unfolding named
 occurrences-named units broadcast r found start hist u set o b =
     occurrences-filter u (λ u. member (unit_of broadcast u).mpu (known broadcast.cast r start hist)) (found (held broadcast.cast.packets r start hist))
     ∙ (ap (λ x. cond (member (unit_of broadcast u).mpu (known broadcast.cast r start hist)) x 0)
-        (set.finding.once (held broadcast.cast.packets r start hist) (held-once broadcast.cast.packets r start hist set.short b) (λ k l. (held_facts broadcast.cast.packets r start hist k set.short o b l).of) u)
+    (set.finding.once (held broadcast.cast.packets r start hist) (held-once broadcast.cast.packets r start hist set.short b) (λ k l. (held_facts broadcast.cast.packets r start hist k set.short o b l).of) u)
     ∙ cond-as_number (member (unit_of broadcast u).mpu (known broadcast.cast r start hist)) (nat_lt u (length broadcast.units) && list_all (λ k. member k (held broadcast.cast.packets r start hist)) (unit_of broadcast u).members))
 
 -- of the units with a due tick after the clock, those that a test picks
 picked : (units : List Heard → List MediaUnit) (broadcast : Broadcast) (r : Params) (found : List ℕ → List ℕ) (start : ℕ) (hist : List ℕ) (u : ℕ) (test : ℕ → Bool) → IsSet units broadcast r found → AreOf broadcast.cast.packets.sent hist → Begins broadcast.cast.packets.sent start hist
     → (test u ≡ true → latest broadcast.cast.packets.sent start hist < due_of_unit broadcast u)
     → occurrences u (sort_by (in_order broadcast) (filter test (named broadcast r start hist (found (held broadcast.cast.packets r start hist)))))
-      ≡ as_number (nat_lt u (length broadcast.units) && (is_ready broadcast r.delay hist u && test u))
+    ≡ as_number (nat_lt u (length broadcast.units) && (is_ready broadcast r.delay hist u && test u))
 picked units broadcast r found start hist u test set o b early =
     let us : List ℕ = named broadcast r start hist (found (held broadcast.cast.packets r start hist)) in
     let A : Bool = list_all (λ k. member k (held broadcast.cast.packets r start hist)) (unit_of broadcast u).members in
@@ -132,7 +130,7 @@ picked units broadcast r found start hist u test set o b early =
     ∙ (ap (λ x. cond (test u) x 0) (occurrences-named units broadcast r found start hist u set o b)
     ∙ (cond-as_number (test u) ((nat_lt u (length broadcast.units) && A) && K)
     ∙ ap as_number (joined (nat_lt u (length broadcast.units)) A K (is_ready broadcast r.delay hist u) (test u)
-        (λ lu t. ready-early units broadcast r found start hist u set o b (ltb-true u (length broadcast.units) lu) (early t)) (nat_lt u (length broadcast.units)) refl))))
+    (λ lu t. ready-early units broadcast r found start hist u set o b (ltb-true u (length broadcast.units) lu) (early t)) (nat_lt u (length broadcast.units)) refl))))
   where
     joined : (l a k s t : Bool) → (l ≡ true → t ≡ true → ((l && a) && k) ≡ s) → (l' : Bool) → l ≡ l' → (((l && a) && k) && t) ≡ (l && (s && t))
     joined true a k s true h l' e = ap (λ x. x && true) (h refl refl)
@@ -155,7 +153,7 @@ picked units broadcast r found start hist u test set o b early =
 
 occurrences-hand : (units : List Heard → List MediaUnit) (broadcast : Broadcast) (r : Params) (found : List ℕ → List ℕ) (start n : ℕ) (older : List ℕ) (u : ℕ) → IsSet units broadcast r found → AreOf broadcast.cast.packets.sent older → Begins broadcast.cast.packets.sent start older
     → occurrences u (hand found broadcast r start n older)
-      ≡ as_number (nat_lt u (length broadcast.units) && (is_ready broadcast r.delay older u && (nat_lt (latest broadcast.cast.packets.sent start older) (due_of_unit broadcast u) && nat_le (due_of_unit broadcast u) (latest broadcast.cast.packets.sent start (n ∷ older)))))
+    ≡ as_number (nat_lt u (length broadcast.units) && (is_ready broadcast r.delay older u && (nat_lt (latest broadcast.cast.packets.sent start older) (due_of_unit broadcast u) && nat_le (due_of_unit broadcast u) (latest broadcast.cast.packets.sent start (n ∷ older)))))
 unfolding hand
 occurrences-hand units broadcast r found start n older u set o b =
     picked units broadcast r found start older u
@@ -189,24 +187,27 @@ step-bits : (e0 e1 s : Bool) (L now d : ℕ) → L ≤ now → (d ≤ now → e1
 step-bits e0 e1 s L now d le over early =
     ⊎_elim
     (λ (past : d ≤ L). let e : e1 ≡ e0 = over (omega arith) in
-      rw (e, le-leb d L past, le-ltb L d past, le-leb d now (omega arith)) (a e0 s))
+    rw (e, le-leb d L past, le-ltb L d past, le-leb d now (omega arith)) (a e0 s))
     (λ (h : L < d). ⊎_elim
-      (λ (due : d ≤ now). let e : e1 ≡ e0 = over due in let f : s ≡ e0 = early h due in
-        rw (e, f, lt-leb d L h, lt-ltb L d h, le-leb d now due) (c e0))
-      (λ (no : now < d). rw (lt-leb d L h, lt-ltb L d h, lt-leb d now no) (f e0 s e1))
-      (cases d now))
+    (λ (due : d ≤ now). let e : e1 ≡ e0 = over due in let f : s ≡ e0 = early h due in
+    rw (e, f, lt-leb d L h, lt-ltb L d h, le-leb d now due) (c e0))
+    (λ (no : now < d). rw (lt-leb d L h, lt-ltb L d h, lt-leb d now no) (f e0 s e1))
+    (cases d now))
     (cases d L)
   where
     cases : (m n : ℕ) → (m ≤ n) ⊎ (n < m)
     cases m n = grind arith
+
     a : (e s : Bool) → as_number (e && true) + as_number (s && false) ≡ as_number (e && true)
     a true true = refl
     a true false = refl
     a false true = refl
     a false false = refl
+
     c : (e : Bool) → as_number (e && false) + as_number (e && true) ≡ as_number (e && true)
     c true = refl
     c false = refl
+
     f : (e s g : Bool) → as_number (e && false) + as_number (s && false) ≡ as_number (g && false)
     f true true true = refl
     f true true false = refl
@@ -237,27 +238,27 @@ occurrences-outs units broadcast r found start (n ∷ older) u set o b =
     occurrences-append u (outs found broadcast r start older) (hand found broadcast r start n older)
     ∙ (ap₂ (λ x y. x + y) ih (occurrences-hand units broadcast r found start n older u set o.1 bo)
     ∙ ⊎_elim
-      (λ (t : nat_lt u (length broadcast.units) ≡ true).
-        let right = set.playing.right u (ltb-true u (length broadcast.units) t) in
-        rw t (step-bits (is_expected broadcast r.delay older u) (is_expected broadcast r.delay (n ∷ older) u) (is_ready broadcast r.delay older u) L now d (omega arith)
-          (λ over. expected-over broadcast r start n older u b right over)
-          (λ early due. ready-expected broadcast r start older u bo right early)))
-      (λ (f : nat_lt u (length broadcast.units) ≡ false). rw f refl)
-      (cases_Bool (nat_lt u (length broadcast.units))))
+    (λ (t : nat_lt u (length broadcast.units) ≡ true).
+    let right = set.playing.right u (ltb-true u (length broadcast.units) t) in
+    rw t (step-bits (is_expected broadcast r.delay older u) (is_expected broadcast r.delay (n ∷ older) u) (is_ready broadcast r.delay older u) L now d (omega arith)
+    (λ over. expected-over broadcast r start n older u b right over)
+    (λ early due. ready-expected broadcast r start older u bo right early)))
+    (λ (f : nat_lt u (length broadcast.units) ≡ false). rw f refl)
+    (cases_Bool (nat_lt u (length broadcast.units))))
 
 -- units stand in the order of their due ticks
 in_due_order : (broadcast : Broadcast) (u v : ℕ) → due_of_unit broadcast u < due_of_unit broadcast v → in_order broadcast u v ≡ true
 unfolding due_of_unit is_presented_before precedes order_numbers
 in_due_order broadcast u v h =
     let time : (presentation_of broadcast u).time < (presentation_of broadcast v).time =
-      ⊎_elim (λ (lt : (presentation_of broadcast u).time < (presentation_of broadcast v).time). lt)
-      (λ (ge : (presentation_of broadcast v).time ≤ (presentation_of broadcast u).time). absurd (omega (arith, due-mono (presentation_of broadcast v).time (presentation_of broadcast u).time ge, h)))
-      (cases_lt (presentation_of broadcast u).time (presentation_of broadcast v).time) in
+    ⊎_elim (λ (lt : (presentation_of broadcast u).time < (presentation_of broadcast v).time). lt)
+    (λ (ge : (presentation_of broadcast v).time ≤ (presentation_of broadcast u).time). absurd (omega (arith, due-mono (presentation_of broadcast v).time (presentation_of broadcast u).time ge, h)))
+    (cases_lt (presentation_of broadcast u).time (presentation_of broadcast v).time) in
     or_left (nat_lt (presentation_of broadcast u).time (presentation_of broadcast v).time)
-      (((presentation_of broadcast u).time == (presentation_of broadcast v).time) && precedes
-        ((presentation_of broadcast u).unit.packet_id ∷ (presentation_of broadcast u).unit.mpu ∷ (key_numbers (presentation_of broadcast u).unit.key ++ (presentation_of broadcast u).unit.number ∷ (presentation_of broadcast u).unit.place ∷ []))
-        ((presentation_of broadcast v).unit.packet_id ∷ (presentation_of broadcast v).unit.mpu ∷ (key_numbers (presentation_of broadcast v).unit.key ++ (presentation_of broadcast v).unit.number ∷ (presentation_of broadcast v).unit.place ∷ [])))
-      (lt-ltb (presentation_of broadcast u).time (presentation_of broadcast v).time time)
+    (((presentation_of broadcast u).time == (presentation_of broadcast v).time) && precedes
+    ((presentation_of broadcast u).unit.packet_id ∷ (presentation_of broadcast u).unit.mpu ∷ (key_numbers (presentation_of broadcast u).unit.key ++ (presentation_of broadcast u).unit.number ∷ (presentation_of broadcast u).unit.place ∷ []))
+    ((presentation_of broadcast v).unit.packet_id ∷ (presentation_of broadcast v).unit.mpu ∷ (key_numbers (presentation_of broadcast v).unit.key ++ (presentation_of broadcast v).unit.number ∷ (presentation_of broadcast v).unit.place ∷ [])))
+    (lt-ltb (presentation_of broadcast u).time (presentation_of broadcast v).time time)
 
 length-keys : (k : UnitKey) → length (key_numbers k) ≡ 4
 unfolding key_numbers
@@ -289,8 +290,13 @@ once-sorted : (units : List Heard → List MediaUnit) (broadcast : Broadcast) (r
     → (u : ℕ) → occurrences u (filter test (named broadcast r start hist (found (held broadcast.cast.packets r start hist)))) ≤ 1
 once-sorted units broadcast r found start hist test set o b u =
     let us : List ℕ = named broadcast r start hist (found (held broadcast.cast.packets r start hist)) in
-    omega (arith, occurrences-filter u test us, drop_le (test u) (occurrences u us), occurrences-named units broadcast r found start hist u set o b,
-      bit_le_one ((nat_lt u (length broadcast.units) && list_all (λ k. member k (held broadcast.cast.packets r start hist)) (unit_of broadcast u).members) && member (unit_of broadcast u).mpu (known broadcast.cast r start hist)))
+    omega (
+      arith,
+      occurrences-filter u test us,
+      drop_le (test u) (occurrences u us),
+      occurrences-named units broadcast r found start hist u set o b,
+      bit_le_one ((nat_lt u (length broadcast.units) && list_all (λ k. member k (held broadcast.cast.packets r start hist)) (unit_of broadcast u).members) && member (unit_of broadcast u).mpu (known broadcast.cast r start hist)),
+    )
   where
     drop_le : (c : Bool) (t : ℕ) → cond c t 0 ≤ t
     drop_le true t = omega arith
@@ -317,11 +323,11 @@ rising-outs units broadcast r found start (n ∷ older) set o b =
     (rising-outs units broadcast r found start older set o.1 bo)
     (rising-sort (in_order broadcast) (length broadcast.units) (filter test (named broadcast r start older (found (held p r start older)))) (broadcast-order broadcast r set.playing) (below-sorted units broadcast r found start older test set o.1 bo) (once-sorted units broadcast r found start older test set o.1 bo))
     (λ x y lx ly.
-      let a = bit_two (nat_lt x (length broadcast.units)) (is_expected broadcast r.delay older x) (nat_le (due_of_unit broadcast x) (latest p.sent start older)) (omega (arith, lx, occurrences-outs units broadcast r found start older x set o.1 bo)) in
-      let c = bit_two (nat_lt y (length broadcast.units)) (is_ready broadcast r.delay older y) (test y) (omega (arith, ly, occurrences-hand units broadcast r found start n older y set o.1 bo)) in
-      let l = leb-true (due_of_unit broadcast x) (latest p.sent start older) a.1 in
-      let m = ltb-true (latest p.sent start older) (due_of_unit broadcast y) (and_parts (nat_lt (latest p.sent start older) (due_of_unit broadcast y)) (nat_le (due_of_unit broadcast y) (latest p.sent start (n ∷ older))) c.1).0 in
-      in_due_order broadcast x y (omega arith))
+    let a = bit_two (nat_lt x (length broadcast.units)) (is_expected broadcast r.delay older x) (nat_le (due_of_unit broadcast x) (latest p.sent start older)) (omega (arith, lx, occurrences-outs units broadcast r found start older x set o.1 bo)) in
+    let c = bit_two (nat_lt y (length broadcast.units)) (is_ready broadcast r.delay older y) (test y) (omega (arith, ly, occurrences-hand units broadcast r found start n older y set o.1 bo)) in
+    let l = leb-true (due_of_unit broadcast x) (latest p.sent start older) a.1 in
+    let m = ltb-true (latest p.sent start older) (due_of_unit broadcast y) (and_parts (nat_lt (latest p.sent start older) (due_of_unit broadcast y)) (nat_le (due_of_unit broadcast y) (latest p.sent start (n ∷ older))) c.1).0 in
+    in_due_order broadcast x y (omega arith))
 
 rising-last : (units : List Heard → List MediaUnit) (broadcast : Broadcast) (r : Params) (found : List ℕ → List ℕ) (start : ℕ) (hist : List ℕ) → IsSet units broadcast r found → AreOf broadcast.cast.packets.sent hist → Begins broadcast.cast.packets.sent start hist
     → Rising (in_order broadcast) (last found broadcast r start hist)
@@ -341,33 +347,34 @@ outs-expected units broadcast r found start hist set o b =
     let es : List ℕ = filter (is_expected broadcast r.delay hist) (places (length broadcast.units)) in
     rising-same (in_order broadcast) (length broadcast.units) (outs found broadcast r start hist ++ last found broadcast r start hist) (sort_by (in_order broadcast) es) (broadcast-order broadcast r set.playing)
     (rising-append (in_order broadcast) (outs found broadcast r start hist) (last found broadcast r start hist)
-      (rising-outs units broadcast r found start hist set o b)
-      (rising-last units broadcast r found start hist set o b)
-      (λ x y lx ly.
-        let a = bit_two (nat_lt x (length broadcast.units)) (is_expected broadcast r.delay hist x) (nat_le (due_of_unit broadcast x) now) (omega (arith, lx, occurrences-outs units broadcast r found start hist x set o b)) in
-        let c = bit_two (nat_lt y (length broadcast.units)) (is_ready broadcast r.delay hist y) (test y) (omega (arith, ly, occurrences-last units broadcast r found start hist y set o b)) in
-        let l = leb-true (due_of_unit broadcast x) now a.1 in
-        let m = ltb-true now (due_of_unit broadcast y) c.1 in
-        in_due_order broadcast x y (omega arith)))
+    (rising-outs units broadcast r found start hist set o b)
+    (rising-last units broadcast r found start hist set o b)
+    (λ x y lx ly.
+    let a = bit_two (nat_lt x (length broadcast.units)) (is_expected broadcast r.delay hist x) (nat_le (due_of_unit broadcast x) now) (omega (arith, lx, occurrences-outs units broadcast r found start hist x set o b)) in
+    let c = bit_two (nat_lt y (length broadcast.units)) (is_ready broadcast r.delay hist y) (test y) (omega (arith, ly, occurrences-last units broadcast r found start hist y set o b)) in
+    let l = leb-true (due_of_unit broadcast x) now a.1 in
+    let m = ltb-true now (due_of_unit broadcast y) c.1 in
+    in_due_order broadcast x y (omega arith)))
     (rising-sort (in_order broadcast) (length broadcast.units) es (broadcast-order broadcast r set.playing)
-      (λ u l. ltb-true u (length broadcast.units) (as_number-true (nat_lt u (length broadcast.units)) (omega (arith, times_of_filter u (is_expected broadcast r.delay hist) (places (length broadcast.units)) l, occurrences-places u (length broadcast.units)))))
-      (λ u. omega (arith, occurrences-filter u (is_expected broadcast r.delay hist) (places (length broadcast.units)), at_most (is_expected broadcast r.delay hist u) (occurrences u (places (length broadcast.units))), occurrences-places u (length broadcast.units), bit_le_one (nat_lt u (length broadcast.units)))))
+    (λ u l. ltb-true u (length broadcast.units) (as_number-true (nat_lt u (length broadcast.units)) (omega (arith, times_of_filter u (is_expected broadcast r.delay hist) (places (length broadcast.units)) l, occurrences-places u (length broadcast.units)))))
+    (λ u. omega (arith, occurrences-filter u (is_expected broadcast r.delay hist) (places (length broadcast.units)), at_most (is_expected broadcast r.delay hist u) (occurrences u (places (length broadcast.units))), occurrences-places u (length broadcast.units), bit_le_one (nat_lt u (length broadcast.units)))))
     (λ u.
-      occurrences-append u (outs found broadcast r start hist) (last found broadcast r start hist)
-      ∙ (ap₂ (λ x y. x + y) (occurrences-outs units broadcast r found start hist u set o b) (occurrences-last units broadcast r found start hist u set o b)
-      ∙ (⊎_elim
-        (λ (t : nat_lt u (length broadcast.units) ≡ true).
-          rw t (whole-bits (is_expected broadcast r.delay hist u) (is_ready broadcast r.delay hist u) now (due_of_unit broadcast u)
-            (λ early. ready-expected broadcast r start hist u b (set.playing.right u (ltb-true u (length broadcast.units) t)) early)))
-        (λ (f : nat_lt u (length broadcast.units) ≡ false). rw f refl)
-        (cases_Bool (nat_lt u (length broadcast.units)))
-      ∙ sym (occurrences-sort (in_order broadcast) u es ∙ (occurrences-filter u (is_expected broadcast r.delay hist) (places (length broadcast.units))
-        ∙ (ap (λ x. cond (is_expected broadcast r.delay hist u) x 0) (occurrences-places u (length broadcast.units))
-        ∙ cond-as_number (is_expected broadcast r.delay hist u) (nat_lt u (length broadcast.units))))))))
+    occurrences-append u (outs found broadcast r start hist) (last found broadcast r start hist)
+    ∙ (ap₂ (λ x y. x + y) (occurrences-outs units broadcast r found start hist u set o b) (occurrences-last units broadcast r found start hist u set o b)
+    ∙ (⊎_elim
+    (λ (t : nat_lt u (length broadcast.units) ≡ true).
+    rw t (whole-bits (is_expected broadcast r.delay hist u) (is_ready broadcast r.delay hist u) now (due_of_unit broadcast u)
+    (λ early. ready-expected broadcast r start hist u b (set.playing.right u (ltb-true u (length broadcast.units) t)) early)))
+    (λ (f : nat_lt u (length broadcast.units) ≡ false). rw f refl)
+    (cases_Bool (nat_lt u (length broadcast.units)))
+    ∙ sym (occurrences-sort (in_order broadcast) u es ∙ (occurrences-filter u (is_expected broadcast r.delay hist) (places (length broadcast.units))
+    ∙ (ap (λ x. cond (is_expected broadcast r.delay hist u) x 0) (occurrences-places u (length broadcast.units))
+    ∙ cond-as_number (is_expected broadcast r.delay hist u) (nat_lt u (length broadcast.units))))))))
   where
     at_most : (c : Bool) (t : ℕ) → cond c t 0 ≤ t
     at_most true t = omega arith
     at_most false t = omega arith
+
     whole-bits : (e s : Bool) (now d : ℕ) → (now < d → s ≡ e) → as_number (e && nat_le d now) + as_number (s && nat_lt now d) ≡ as_number e
     whole-bits e s now d h =
         ⊎_elim
@@ -378,6 +385,7 @@ outs-expected units broadcast r found start hist set o b =
         a : (e : Bool) → as_number (e && false) + as_number (e && true) ≡ as_number e
         a true = refl
         a false = refl
+
         c : (e s : Bool) → as_number (e && true) + as_number (s && false) ≡ as_number e
         c true true = refl
         c true false = refl

@@ -1,6 +1,7 @@
 -- What the proofs of the theorem rest on, by part.
 use Rattle.std.specs.Prelude.{ℕ, zero, suc, ◌+◌, ◌^◌, ◌≡◌, ◌<◌, ◌≤◌, Bool, true, false, not, ◌&&◌, ◌||◌, nat_lt, nat_le, ◌==◌, List, [], ◌∷◌, ◌++◌, max, length, get_or, if◌then◌else◌}
 use Rattle.std.specs.List.{filter, list_any, list_all, flat_map}
+use Rattle.std.specs.List.{AllByRecursion}
 use Rattle.mmt_model.specs.Broadcast.{Broadcast, CopyPlaces, NamedCast, count_below, due_at, due_of_unit, entry_of, is_named_from, last_at, presentation_of, unit_of}
 use Rattle.mmt_model.specs.Counts.{member}
 use Rattle.mmt_model.specs.Delivery.{reach}

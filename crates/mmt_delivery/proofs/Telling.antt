@@ -5,9 +5,7 @@ use Rattle.std.proofs.lemmas.Bool.Decides.{nat_tests}
 use Rattle.std.proofs.lemmas.Bool.{cases_eq, eq-eqb, eqb-true, eqb-false, ne_eqb, and_parts, and_from, or_cases, or_right, or_left, cases_Bool, ltb-true, leb-true, lt-ltb, le-ltb, le-leb, lt-leb, cases_lt, false_from_ne_true}
 use Rattle.std.proofs.lemmas.List.Elements.{filter-append}
 use Rattle.mmt_base.specs.Ticks.{ahead_of, low}
-use Rattle.mmt_delivery.proofs.Admitting.{apart}
 use Rattle.mmt_delivery.proofs.Finding.{IsApart, payload-heard, rest_of_run-whole}
-use Rattle.mmt_delivery.proofs.LayingTables.{tables}
 use Rattle.mmt_delivery.proofs.Learning.{IsTelling}
 use Rattle.mmt_delivery.proofs.Premises.{names_made_known}
 use Rattle.mmt_delivery.proofs.Tests.{each-at, member-occurrences}
@@ -25,16 +23,17 @@ use Rattle.mmt_model.specs.declared.keys.Part.TheVariants as parts
 -- the copies that hold the packet say what is told
 told-only : (cast : NamedCast) (ks : List ℕ) (n : ℕ) (cs : List CopyPlaces)
     → flat_map (λ c. cond (member n c.members && list_all (λ k. member k ks) c.members) c.names []) cs
-      ≡ flat_map (λ c. cond (list_all (λ k. member k ks) c.members) c.names []) (filter (λ c. member n c.members) cs)
+    ≡ flat_map (λ c. cond (list_all (λ k. member k ks) c.members) c.names []) (filter (λ c. member n c.members) cs)
 told-only cast ks n [] = refl
 told-only cast ks n (c ∷ cs) = go (member n c.members) (told-only cast ks n cs)
   where
     all : Bool
     all = list_all (λ k. member k ks) c.members
+
     go : (m : Bool) → flat_map (λ c. cond (member n c.members && list_all (λ k. member k ks) c.members) c.names []) cs
-          ≡ flat_map (λ c. cond (list_all (λ k. member k ks) c.members) c.names []) (filter (λ c. member n c.members) cs)
+        ≡ flat_map (λ c. cond (list_all (λ k. member k ks) c.members) c.names []) (filter (λ c. member n c.members) cs)
         → cond (m && list_all (λ k. member k ks) c.members) c.names [] ++ flat_map (λ c. cond (member n c.members && list_all (λ k. member k ks) c.members) c.names []) cs
-          ≡ flat_map (λ c. cond (list_all (λ k. member k ks) c.members) c.names []) (cond m (c ∷ filter (λ c. member n c.members) cs) (filter (λ c. member n c.members) cs))
+        ≡ flat_map (λ c. cond (list_all (λ k. member k ks) c.members) c.names []) (cond m (c ∷ filter (λ c. member n c.members) cs) (filter (λ c. member n c.members) cs))
     go true ih = ap (λ l. cond (list_all (λ k. member k ks) c.members) c.names [] ++ l) ih
     go false ih = ih
 
@@ -91,9 +90,9 @@ chain-number packets link packet_id k (j ∷ i ∷ ns) (b ∷ parts) n chain low
     ⊎_elim
     (λ (t : (j == n) ≡ true). here packets packet_id k j n (suc (suc (length ns))) chain.0 (eqb-true j n t) (omega arith))
     (λ (t : list_any (λ z. z == n) (i ∷ ns) ≡ true).
-      let e = next_number-low k (omega arith) in
-      let r = chain-number packets link packet_id (next_number k) (i ∷ ns) parts n chain.2 (omega (arith, e)) t in
-      (r.0, omega (arith, e, r.1), omega (arith, e, r.2)))
+    let e = next_number-low k (omega arith) in
+    let r = chain-number packets link packet_id (next_number k) (i ∷ ns) parts n chain.2 (omega (arith, e)) t in
+    (r.0, omega (arith, e, r.1), omega (arith, e, r.2)))
     (or_cases (j == n) (list_any (λ z. z == n) (i ∷ ns)) m)
 
 abbrev pub message_of : SentPackets → ℕ → List ℕ → List (List ℕ) → Message
@@ -134,9 +133,9 @@ unfolding member
 of_message packets head tail f n b table m =
     ⊎_elim
     (λ (t : (f == n) ≡ true).
-      let e : f ≡ n = eqb-true f n t in
-      let g : (heard_of packets f).number ≡ (heard_of packets n).number = ap (λ i. (heard_of packets i).number) e in
-      self packets tail f n e)
+    let e : f ≡ n = eqb-true f n t in
+    let g : (heard_of packets f).number ≡ (heard_of packets n).number = ap (λ i. (heard_of packets i).number) e in
+    self packets tail f n e)
     (λ (t : list_any (λ j. j == n) (tail f) ≡ true). later packets head tail f n b table (unfold member in t))
     (or_cases (f == n) (list_any (λ j. j == n) (tail f)) m)
   where
@@ -144,6 +143,7 @@ of_message packets head tail f n b table m =
     self packets tail f n e =
         let g : (heard_of packets f).number ≡ (heard_of packets n).number = ap (λ i. (heard_of packets i).number) e in
         record { same_id = sym (ap (λ i. (heard_of packets i).packet_id) e); least = omega (arith, g); below = omega (arith, g) }
+
     later : (packets : SentPackets) (head : ℕ → ℕ) (tail : ℕ → List ℕ) (f n : ℕ) (b : List ℕ) → IsTable packets head tail f b → member n (tail f) ≡ true → IsOfMessage packets tail f n
     later packets head tail f n b table m = later_of packets head tail f n b table m (tail f) refl
 
@@ -152,7 +152,7 @@ unfolding is_part_of ahead_of
 is_part packets head tail f n b table of =
     and_from (nat_lt (((heard_of packets n).number + (2 ^ 32 - (heard_of packets f).number)) % 2 ^ 32) (suc (length table.parts))) (nat_le (length (joined (b ∷ table.parts))) 131072)
     (lt-ltb (((heard_of packets n).number + (2 ^ 32 - (heard_of packets f).number)) % 2 ^ 32) (suc (length table.parts))
-      (omega (arith, of.least, of.below, table.low, chain-length packets signal_link (heard_of packets f).packet_id (next_number (heard_of packets f).number) (tail f) table.parts table.chain)))
+    (omega (arith, of.least, of.below, table.low, chain-length packets signal_link (heard_of packets f).packet_id (next_number (heard_of packets f).number) (tail f) table.parts table.chain)))
     (le-leb (length (joined (b ∷ table.parts))) 131072 table.short)
 
 -- a part of the message is a packet of it
@@ -213,21 +213,21 @@ other_at cast names_in head tail ks n apart tables below part ln j kept other sa
     ⊎_elim
     (λ (e : message_by (map (heard_of p) ks) (heard_of p j) (payload_of p j) ≡ []). ap (λ c. filter (is_part_of h) (message_by (map (heard_of p) ks) (heard_of p j) c)) (payload-heard p j) ∙ ap (filter (is_part_of h)) e)
     (λ (e : (head j ≡ j) × IsTablePart cast names_in head tail j).
-      let t = (e.1).table in
-      let none : is_part_of h (message_of p (head j) (e.1).bytes t.parts) ≡ false =
-        false_from_ne_true (is_part_of h (message_of p (head j) (e.1).bytes t.parts))
-        (λ x. other (sym (part_only p head tail (head j) n (e.1).bytes apart t ln (low_number cast names_in head tail n part) (same ∙ sym (ap (λ i. (heard_of p i).packet_id) e.0)) x ∙ e.0))) in
-      let at = message_at p head tail ks (head j) (e.1).bytes apart below t (e.1).first in
-      ap (λ i. filter (is_part_of h) (message_by (map (heard_of p) ks) (heard_of p i) (heard_of p i).payload)) (sym e.0)
-      ∙ (ap (filter (is_part_of h)) at
-      ∙ (filter-cond (is_part_of h) (list_all (λ k. member k ks) (tail (head j))) (message_of p (head j) (e.1).bytes t.parts) false none
-      ∙ cond-nil (list_all (λ k. member k ks) (tail (head j))))))
+    let t = (e.1).table in
+    let none : is_part_of h (message_of p (head j) (e.1).bytes t.parts) ≡ false =
+    false_from_ne_true (is_part_of h (message_of p (head j) (e.1).bytes t.parts))
+    (λ x. other (sym (part_only p head tail (head j) n (e.1).bytes apart t ln (low_number cast names_in head tail n part) (same ∙ sym (ap (λ i. (heard_of p i).packet_id) e.0)) x ∙ e.0))) in
+    let at = message_at p head tail ks (head j) (e.1).bytes apart below t (e.1).first in
+    ap (λ i. filter (is_part_of h) (message_by (map (heard_of p) ks) (heard_of p i) (heard_of p i).payload)) (sym e.0)
+    ∙ (ap (filter (is_part_of h)) at
+    ∙ (filter-cond (is_part_of h) (list_all (λ k. member k ks) (tail (head j))) (message_of p (head j) (e.1).bytes t.parts) false none
+    ∙ cond-nil (list_all (λ k. member k ks) (tail (head j))))))
     kd
 
 begin_at : (cast : NamedCast) (names_in : List ℕ → List Entry) (head : ℕ → ℕ) (tail : ℕ → List ℕ) (ks : List ℕ) (n : ℕ) → IsApart cast.packets → AreTables cast names_in head tail → ((k : ℕ) → 0 < occurrences k ks → k < length cast.packets.sent)
     → (part : IsTablePart cast names_in head tail n) → n < length cast.packets.sent → (j : ℕ) → 0 < occurrences j ks → (e : Bool) → (j == head n) ≡ e
     → filter (is_part_of (heard_of cast.packets n)) (cond ((heard_of cast.packets j).packet_id == (heard_of cast.packets n).packet_id) (message_by (map (heard_of cast.packets) ks) (heard_of cast.packets j) (heard_of cast.packets j).payload) [])
-      ≡ cond e (cond (list_all (λ k. member k ks) (tail (head n))) (message_of cast.packets (head n) part.bytes (part.table).parts ∷ []) []) []
+    ≡ cond e (cond (list_all (λ k. member k ks) (tail (head n))) (message_of cast.packets (head n) part.bytes (part.table).parts ∷ []) []) []
 begin_at cast names_in head tail ks n apart tables below part ln j kept true e =
     let p : SentPackets = cast.packets in
     let h : Heard = heard_of p n in
@@ -243,17 +243,17 @@ begin_at cast names_in head tail ks n apart tables below part ln j kept false e 
     let h : Heard = heard_of p n in
     ⊎_elim
     (λ (same : (heard_of p j).packet_id ≡ h.packet_id).
-      ap (λ x. filter (is_part_of h) (cond x (message_by (map (heard_of p) ks) (heard_of p j) (heard_of p j).payload) [])) (eq-eqb (heard_of p j).packet_id h.packet_id same)
-      ∙ other_at cast names_in head tail ks n apart tables below part ln j kept (eqb-false j (head n) e) (sym same))
+    ap (λ x. filter (is_part_of h) (cond x (message_by (map (heard_of p) ks) (heard_of p j) (heard_of p j).payload) [])) (eq-eqb (heard_of p j).packet_id h.packet_id same)
+    ∙ other_at cast names_in head tail ks n apart tables below part ln j kept (eqb-false j (head n) e) (sym same))
     (λ (ne : (heard_of p j).packet_id ≡ h.packet_id → ⊥).
-      ap (λ x. filter (is_part_of h) (cond x (message_by (map (heard_of p) ks) (heard_of p j) (heard_of p j).payload) [])) (ne_eqb (heard_of p j).packet_id h.packet_id ne))
+    ap (λ x. filter (is_part_of h) (cond x (message_by (map (heard_of p) ks) (heard_of p j) (heard_of p j).payload) [])) (ne_eqb (heard_of p j).packet_id h.packet_id ne))
     (cases_eq (heard_of p j).packet_id h.packet_id)
 
 -- of the messages that begin in these packets, the packet is a part of its own alone
 parts_from : (cast : NamedCast) (names_in : List ℕ → List Entry) (head : ℕ → ℕ) (tail : ℕ → List ℕ) (ks : List ℕ) (n : ℕ) → IsApart cast.packets → AreTables cast names_in head tail → ((k : ℕ) → 0 < occurrences k ks → k < length cast.packets.sent)
     → (part : IsTablePart cast names_in head tail n) → n < length cast.packets.sent → (js : List ℕ) → ((k : ℕ) → 0 < occurrences k js → 0 < occurrences k ks) → occurrences (head n) js ≤ 1
     → filter (is_part_of (heard_of cast.packets n)) (flat_map (λ p. cond (p.packet_id == (heard_of cast.packets n).packet_id) (message_by (map (heard_of cast.packets) ks) p p.payload) []) (map (heard_of cast.packets) js))
-      ≡ cond (member (head n) js) (cond (list_all (λ k. member k ks) (tail (head n))) (message_of cast.packets (head n) part.bytes (part.table).parts ∷ []) []) []
+    ≡ cond (member (head n) js) (cond (list_all (λ k. member k ks) (tail (head n))) (message_of cast.packets (head n) part.bytes (part.table).parts ∷ []) []) []
 unfolding member
 parts_from cast names_in head tail ks n apart tables below part ln [] sub once = refl
 parts_from cast names_in head tail ks n apart tables below part ln (j ∷ js) sub once =
@@ -262,11 +262,11 @@ parts_from cast names_in head tail ks n apart tables below part ln (j ∷ js) su
     let f : ℕ = head n in
     let x : List Message = cond (list_all (λ k. member k ks) (tail f)) (message_of p f part.bytes (part.table).parts ∷ []) [] in
     filter-append (is_part_of h)
-      (cond ((heard_of p j).packet_id == h.packet_id) (message_by (map (heard_of p) ks) (heard_of p j) (heard_of p j).payload) [])
-      (flat_map (λ p. cond (p.packet_id == h.packet_id) (message_by (map (heard_of cast.packets) ks) p p.payload) []) (map (heard_of p) js))
+    (cond ((heard_of p j).packet_id == h.packet_id) (message_by (map (heard_of p) ks) (heard_of p j) (heard_of p j).payload) [])
+    (flat_map (λ p. cond (p.packet_id == h.packet_id) (message_by (map (heard_of cast.packets) ks) p p.payload) []) (map (heard_of p) js))
     ∙ (ap₂ (λ a b. a ++ b)
-        (begin_at cast names_in head tail ks n apart tables below part ln j (sub j (omega (arith, ap as_number (eq-eqb j j refl)))) (j == f) refl)
-        (parts_from cast names_in head tail ks n apart tables below part ln js (λ k l. sub k (omega arith)) (omega arith))
+    (begin_at cast names_in head tail ks n apart tables below part ln j (sub j (omega (arith, ap as_number (eq-eqb j j refl)))) (j == f) refl)
+    (parts_from cast names_in head tail ks n apart tables below part ln js (λ k l. sub k (omega arith)) (omega arith))
     ∙ both x (j == f) refl (member f js) refl)
   where
     both : (x : List Message) (a : Bool) → (j == head n) ≡ a → (b : Bool) → list_any (λ k. k == head n) js ≡ b → cond a x [] ++ cond b x [] ≡ cond (a || b) x []
@@ -288,10 +288,10 @@ part_told cast names_in head tail ks n apart tables once below part ln =
     let m : Message = message_of p f part.bytes (part.table).parts in
     let A : Bool = list_all (λ k. member k ks) (tail f) in
     let told : flat_map (λ c. cond (member n c.members && list_all (λ k. member k ks) c.members) c.names []) cast.copies ≡ cond (member f ks && A) (part.copy).names [] =
-      told-only cast ks n cast.copies
-      ∙ (ap (flat_map (λ c. cond (list_all (λ k. member k ks) c.members) c.names [])) part.only
-      ∙ (append-nil (cond (list_all (λ k. member k ks) (part.copy).members) (part.copy).names [])
-      ∙ ap (λ l. cond (list_all (λ k. member k ks) l) (part.copy).names []) part.members)) in
+    told-only cast ks n cast.copies
+    ∙ (ap (flat_map (λ c. cond (list_all (λ k. member k ks) c.members) c.names [])) part.only
+    ∙ (append-nil (cond (list_all (λ k. member k ks) (part.copy).members) (part.copy).names [])
+    ∙ ap (λ l. cond (list_all (λ k. member k ks) l) (part.copy).names []) part.members)) in
     ap (λ l. flat_map names_in (map (λ m. m.bytes) l)) (parts_from cast names_in head tail ks n apart tables below part ln ks (λ k l. l) (once f))
     ∙ (go part.bytes (part.table).parts m.bytes (part.copy).names part.names (member f ks) A
     ∙ sym (ap (map (entry_of cast)) told))
@@ -309,16 +309,16 @@ unfolding names_made_known
 whole_told cast names_in ks n ms t kept =
     ⊎_elim
     (λ (e : (filter (λ c. member n c.members) cast.copies ≡ []) × (flat_map names_in ms ≡ [])).
-      e.1 ∙ sym (ap (map (entry_of cast)) (told-only cast ks n cast.copies ∙ ap (flat_map (λ c. cond (list_all (λ k. member k ks) c.members) c.names [])) e.0)))
+    e.1 ∙ sym (ap (map (entry_of cast)) (told-only cast ks n cast.copies ∙ ap (flat_map (λ c. cond (list_all (λ k. member k ks) c.members) c.names [])) e.0)))
     (λ (e : (c : CopyPlaces) × (filter (λ c. member n c.members) cast.copies ≡ c ∷ []) × (c.members ≡ n ∷ []) × (map (entry_of cast) c.names ≡ flat_map names_in ms)).
-      let c : CopyPlaces = e.0 in
-      let all : list_all (λ k. member k ks) c.members ≡ true = ap (list_all (λ k. member k ks)) e.2 ∙ ap (λ x. x && true) kept in
-      sym (ap (map (entry_of cast))
-        (told-only cast ks n cast.copies
-        ∙ (ap (flat_map (λ c. cond (list_all (λ k. member k ks) c.members) c.names [])) e.1
-        ∙ (append-nil (cond (list_all (λ k. member k ks) c.members) c.names [])
-        ∙ ap (λ x. cond x c.names []) all)))
-      ∙ e.3))
+    let c : CopyPlaces = e.0 in
+    let all : list_all (λ k. member k ks) c.members ≡ true = ap (list_all (λ k. member k ks)) e.2 ∙ ap (λ x. x && true) kept in
+    sym (ap (map (entry_of cast))
+    (told-only cast ks n cast.copies
+    ∙ (ap (flat_map (λ c. cond (list_all (λ k. member k ks) c.members) c.names [])) e.1
+    ∙ (append-nil (cond (list_all (λ k. member k ks) c.members) c.names [])
+    ∙ ap (λ x. cond x c.names []) all)))
+    ∙ e.3))
     t
 
 nothing_told : (cast : NamedCast) (ks : List ℕ) (n : ℕ) → filter (λ c. member n c.members) cast.copies ≡ [] → [] ≡ map (entry_of cast) (names_made_known cast ks n)
@@ -342,7 +342,7 @@ unfolding names_of
 telling cast names_in head tail apart tables =
     record {
       told = λ ks n once below kept.
-        (let ln : n < length cast.packets.sent = below n (ltb-true 0 (occurrences n ks) (sym (member-occurrences n ks) ∙ kept)) in
-        ap (λ c. flat_map names_in (messages_by (map (heard_of cast.packets) ks) (heard_of cast.packets n) c)) (payload-heard cast.packets n)
-        ∙ told_by_content cast names_in head tail ks n apart tables once below ln kept (payload_of cast.packets n) (tables.names_by n ln));
+          (let ln : n < length cast.packets.sent = below n (ltb-true 0 (occurrences n ks) (sym (member-occurrences n ks) ∙ kept)) in
+          ap (λ c. flat_map names_in (messages_by (map (heard_of cast.packets) ks) (heard_of cast.packets n) c)) (payload-heard cast.packets n)
+          ∙ told_by_content cast names_in head tail ks n apart tables once below ln kept (payload_of cast.packets n) (tables.names_by n ln));
     }

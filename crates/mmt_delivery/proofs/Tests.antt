@@ -3,6 +3,7 @@ use Rattle.std.proofs.Common.{◌≡◌, ℕ, ◌+◌, ◌<◌, ◌≤◌, zero,
 use Rattle.std.specs.List.{list_any, list_all, flat_map}
 use Rattle.std.proofs.lemmas.Bool.Decides.{nat_tests}
 use Rattle.std.proofs.lemmas.Bool.{cases_eq, eq-eqb, ne_eqb, and_parts, and_from, or_cases, or_left, or_right, cases_Bool}
+use Rattle.std.specs.List.{AllByRecursion}
 use Rattle.mmt_model.proofs.Counting.{any-occurrences}
 use Rattle.mmt_model.specs.Counts.{member, occurrences}
 use Rattle.mmt_model.specs.declared.keys.Part.TheVariants as parts

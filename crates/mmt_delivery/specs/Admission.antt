@@ -1,6 +1,7 @@
 -- Which casts are admitted.
 use Rattle.std.specs.Prelude.{ℕ, zero, suc, ◌+◌, ◌^◌, ◌≡◌, ◌<◌, ◌≤◌, Bool, true, ◌&&◌, nat_lt, nat_le, ◌==◌, List, [], ◌∷◌, length, get_or, take, min}
 use Rattle.std.specs.List.{count_by, list_any}
+use Rattle.std.specs.List.{AllByRecursion}
 use Rattle.mmt_delivery.specs.Cutting.{AreTables, IsCut}
 use Rattle.mmt_model.specs.Broadcast.{Broadcast, CopyPlaces, NamedCast, count_below, due_at, due_of_unit, entry_of, is_named_from, last_at, unit_of}
 use Rattle.mmt_model.specs.Entries.{Entry}
@@ -14,7 +15,6 @@ first_at cast [] = 0
 first_at cast (n ∷ []) = sent_at cast.packets.sent n
 first_at cast (n ∷ m ∷ ns) = min (sent_at cast.packets.sent n) (first_at cast (m ∷ ns))
 
-
 -- a table copy ends early enough for what it names, and is short
 pub record IsTimelyCopy (cast : NamedCast) (r : Params) (c : CopyPlaces) : Type 0 where
   pub early : AllByRecursion (λ m. (last_at cast c.members + r.delay < due_at cast m) × (due_at cast m ≤ first_at cast c.members + 2 ^ 30)) c.names
@@ -27,7 +27,7 @@ pub record IsAdmitted (broadcast : Broadcast) (r : Params) : Type 0 where
   pub window : r.delay < r.window
   pub widest : r.window ≤ 2 ^ 24
   pub numbered : (n : ℕ) → n < length broadcast.cast.packets.sent
-      → (get_or broadcast.cast.packets.sent n no_packet).number ≡ count_by (λ p. p.packet_id == (get_or broadcast.cast.packets.sent n no_packet).packet_id) (take n broadcast.cast.packets)
+      → (get_or broadcast.cast.packets.sent n no_packet).number ≡ count_by (λ p. p.packet_id == (get_or broadcast.cast.packets.sent n no_packet).packet_id) (take n broadcast.cast.packets.sent)
   pub timely : (u : ℕ) → u < length broadcast.units
       → (last_at broadcast.cast (unit_of broadcast u).members + r.delay < due_of_unit broadcast u) × (due_of_unit broadcast u ≤ first_at broadcast.cast (unit_of broadcast u).members + r.window)
   pub copies : AllByRecursion (IsTimelyCopy broadcast.cast r) broadcast.cast.copies

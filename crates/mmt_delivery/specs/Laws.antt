@@ -68,7 +68,7 @@ Delivers =
     → (full_every : ℕ) (tunes : Heard → Bool) (delivery : List ℕ) → AreOf broadcast.cast.packets.sent delivery
     → NearDelivery broadcast.cast.packets.sent (tuned full_every (λ n. tunes (heard_of broadcast.cast.packets n)) delivery)
     → out_end (reading_of names_in broadcast) k (from_first tunes (map (heard_of broadcast.cast.packets) (from_heard full_every delivery)))
-      ≡ expected broadcast r.delay (newest_first (tuned full_every (λ n. tunes (heard_of broadcast.cast.packets n)) delivery))
+    ≡ expected broadcast r.delay (newest_first (tuned full_every (λ n. tunes (heard_of broadcast.cast.packets n)) delivery))
 
 -- what becomes of the packet at place d, after ds: it is late, or it survived before, or it is stored
 abbrev pub OutcomesAre : Type 0
@@ -76,13 +76,13 @@ OutcomesAre =
     (names_in : List ℕ → List Entry) (broadcast : Broadcast) (r k : Params) → IsAdmitted broadcast r → IsWellFormed broadcast names_in → IsReceiver r k
     → (ds : List ℕ) (d : ℕ) (after : List ℕ) → AreOf broadcast.cast.packets.sent ((ds ++ d ∷ []) ++ after) → NearDelivery broadcast.cast.packets.sent ((ds ++ d ∷ []) ++ after)
     → (let start = low (start_of broadcast.cast.packets.sent (ds ++ d ∷ [])) in
-      let older = map (heard_of broadcast.cast.packets) (newest_first ds) in
-      let h = heard_of broadcast.cast.packets d in
-      let now = clock start (h ∷ older) in
-      outcome k now (still_kept k now (kept k start older)) h)
-      ≡ (if nat_le (latest broadcast.cast.packets.sent (start_of broadcast.cast.packets.sent (ds ++ d ∷ [])) (newest_first (ds ++ d ∷ []))) (sent_at broadcast.cast.packets.sent d + r.delay)
-        then (if survives broadcast.cast.packets.sent r.delay (newest_first ds) d then Outcome.Repeat else Outcome.Stored)
-        else Outcome.Late)
+    let older = map (heard_of broadcast.cast.packets) (newest_first ds) in
+    let h = heard_of broadcast.cast.packets d in
+    let now = clock start (h ∷ older) in
+    outcome k now (still_kept k now (kept k start older)) h)
+    ≡ (if nat_le (latest broadcast.cast.packets.sent (start_of broadcast.cast.packets.sent (ds ++ d ∷ [])) (newest_first (ds ++ d ∷ []))) (sent_at broadcast.cast.packets.sent d + r.delay)
+    then (if survives broadcast.cast.packets.sent r.delay (newest_first ds) d then Outcome.Repeat else Outcome.Stored)
+    else Outcome.Late)
 
 -- where all timestamps lie less than the reach above the first, every delivery is near
 abbrev pub ShortIsNear : Type 0

@@ -5,8 +5,9 @@ use Rattle.mmt_delivery.specs.Cutting.{IsAt, payload_of}
 use Rattle.mmt_model.specs.Broadcast.{Broadcast, CopyPlaces, entry_of, unit_of}
 use Rattle.mmt_model.specs.Entries.{Entry}
 use Rattle.mmt_model.specs.Packets.{DataUnit, Payload}
-use Rattle.mmt_model.specs.Survival.{SentPackets, no_packet}
+use Rattle.mmt_model.specs.Survival.{no_packet}
 use Rattle.mmt_model.specs.Units.{joined}
+use Rattle.mmt_model.specs.declared.casts.Sent.{Sent}
 use Rattle.mmt_model.specs.declared.keys.Part.{Part}
 use Rattle.mmt_model.specs.declared.keys.Part.TheVariants as parts
 
@@ -50,7 +51,7 @@ payload_by l (Carries.Table c) = Payload.Signalling parts.Whole (l.copy_part c 0
 payload_by l (Carries.TablePart c k) = Payload.Signalling (role k (l.copy_count c)) (l.copy_part c k ∷ [])
 
 -- the place of the packet with this packet_id and number
-unfoldable pub place_of : SentPackets → ℕ → ℕ → ℕ
+unfoldable pub place_of : List Sent → ℕ → ℕ → ℕ
 place_of [] packet_id number = 0
 place_of (p ∷ ps) packet_id number = if (p.packet_id == packet_id) && (p.number == number) then 0 else suc (place_of ps packet_id number)
 
@@ -95,12 +96,19 @@ place_in (Carries.TablePart c k) u = 0
 pub record IsLaidUnit (broadcast : Broadcast) (l : Layout) (u : ℕ) : Type 0 where
   pub some : 1 ≤ l.count u
   pub low : l.first u + l.count u ≤ 2 ^ 32
-  pub each : (k : ℕ) → k < l.count u → IsAt broadcast.cast.packets (place_of broadcast.cast.packets (l.packet_id u) (l.first u + k)) (l.packet_id u) (l.first u + k)
-      × (has_part u k (l.carries (place_of broadcast.cast.packets (l.packet_id u) (l.first u + k))) ≡ true)
-  pub members : (unit_of broadcast u).members ≡ map (place_of broadcast.cast.packets (l.packet_id u)) (numbers (l.first u) (l.count u))
+  pub each : (k : ℕ) → k < l.count u → IsAt broadcast.cast.packets (place_of broadcast.cast.packets.sent (l.packet_id u) (l.first u + k)) (l.packet_id u) (l.first u + k)
+      × (has_part u k (l.carries (place_of broadcast.cast.packets.sent (l.packet_id u) (l.first u + k))) ≡ true)
+  pub members : (unit_of broadcast u).members ≡ map (place_of broadcast.cast.packets.sent (l.packet_id u)) (numbers (l.first u) (l.count u))
   pub value : (unit_of broadcast u).value ≡ record {
-      packet_id = l.packet_id u; mpu = l.mpu u; key = (l.data_unit u).key; priority = (l.data_unit u).priority; dependency = (l.data_unit u).dependency;
-      number = l.first u; place = place_in (l.carries (place_of broadcast.cast.packets (l.packet_id u) (l.first u))) u; bytes = (l.data_unit u).bytes }
+    packet_id = l.packet_id u;
+    mpu = l.mpu u;
+    key = (l.data_unit u).key;
+    priority = (l.data_unit u).priority;
+    dependency = (l.data_unit u).dependency;
+    number = l.first u;
+    place = place_in (l.carries (place_of broadcast.cast.packets.sent (l.packet_id u) (l.first u))) u;
+    bytes = (l.data_unit u).bytes;
+  }
   pub whole : joined (map (l.part u) (numbers 0 (l.count u))) ≡ (l.data_unit u).bytes
 
 pub record IsLaid (broadcast : Broadcast) (l : Layout) : Type 0 where
@@ -125,7 +133,7 @@ copy_at broadcast c = get_or broadcast.cast.copies c no_copy
 
 -- the first place of the table copy that a packet is a part of, and the other places
 unfoldable pub head_by : Broadcast → Layout → ℕ → Carries → ℕ
-head_by broadcast l n (Carries.TablePart c k) = place_of broadcast.cast.packets 0 (l.copy_first c)
+head_by broadcast l n (Carries.TablePart c k) = place_of broadcast.cast.packets.sent 0 (l.copy_first c)
 head_by broadcast l n (Carries.Table c) = n
 head_by broadcast l n (Carries.Whole u) = n
 head_by broadcast l n (Carries.Fragment u k) = n
@@ -133,7 +141,7 @@ head_by broadcast l n (Carries.Group f c) = n
 head_by broadcast l n (Carries.Parameters bytes) = n
 
 unfoldable pub tail_by : Broadcast → Layout → Carries → List ℕ
-tail_by broadcast l (Carries.TablePart c k) = map (place_of broadcast.cast.packets 0) (numbers (l.copy_first c + 1) (l.copy_count c - 1))
+tail_by broadcast l (Carries.TablePart c k) = map (place_of broadcast.cast.packets.sent 0) (numbers (l.copy_first c + 1) (l.copy_count c - 1))
 tail_by broadcast l (Carries.Table c) = []
 tail_by broadcast l (Carries.Whole u) = []
 tail_by broadcast l (Carries.Fragment u k) = []
@@ -143,9 +151,9 @@ tail_by broadcast l (Carries.Parameters bytes) = []
 pub record IsLaidCopy (broadcast : Broadcast) (names_in : List ℕ → List Entry) (l : Layout) (c : ℕ) : Type 0 where
   pub some : 1 ≤ l.copy_count c
   pub low : l.copy_first c + l.copy_count c ≤ 2 ^ 32
-  pub each : (k : ℕ) → k < l.copy_count c → IsAt broadcast.cast.packets (place_of broadcast.cast.packets 0 (l.copy_first c + k)) 0 (l.copy_first c + k)
-      × (has_copy_part c k (l.carries (place_of broadcast.cast.packets 0 (l.copy_first c + k))) ≡ true)
-  pub members : (copy_at broadcast c).members ≡ map (place_of broadcast.cast.packets 0) (numbers (l.copy_first c) (l.copy_count c))
+  pub each : (k : ℕ) → k < l.copy_count c → IsAt broadcast.cast.packets (place_of broadcast.cast.packets.sent 0 (l.copy_first c + k)) 0 (l.copy_first c + k)
+      × (has_copy_part c k (l.carries (place_of broadcast.cast.packets.sent 0 (l.copy_first c + k))) ≡ true)
+  pub members : (copy_at broadcast c).members ≡ map (place_of broadcast.cast.packets.sent 0) (numbers (l.copy_first c) (l.copy_count c))
   pub names : map (entry_of broadcast.cast) (copy_at broadcast c).names ≡ names_in (joined (map (l.copy_part c) (numbers 0 (l.copy_count c))))
   pub short : length (joined (map (l.copy_part c) (numbers 0 (l.copy_count c)))) ≤ 131072
 

@@ -1,5 +1,4 @@
 pub mod Cutting
 pub mod Admission
 pub mod Laws
-pub mod Example
 pub mod Layout

@@ -1,8 +1,7 @@
 -- How often a number stands in a list.
-use Rattle.std.proofs.Common.{◌≡◌, ℕ, ◌+◌, ◌*◌, ◌<◌, ◌≤◌, zero, suc, Bool, true, false, not, ◌&&◌, ◌||◌, ◌==◌, nat_lt, nat_le, cond, if◌then◌else◌, max, List, [], ◌∷◌, ◌++◌, length, arith, refl, ap, sym, ◌∙◌, ⊎_elim, filter, sum_by}
+use Rattle.std.proofs.Common.{◌≡◌, ℕ, ◌+◌, Bool, true, false, ◌||◌, ◌==◌, nat_lt, cond, List, [], ◌∷◌, ◌++◌, arith, refl, ap, sym, ◌∙◌, filter}
 use Rattle.std.specs.List.{list_any}
 use Rattle.std.proofs.lemmas.Bool.Decides.{nat_tests}
-use Rattle.std.proofs.lemmas.List.Sums.{sum_by-cons}
 use Rattle.mmt_model.specs.Counts.{as_number, occurrences}
 
 pub occurrences-push : (n : ℕ) (ks : List ℕ) (k : ℕ) → occurrences n (ks ++ k ∷ []) ≡ occurrences n ks + as_number (k == n)

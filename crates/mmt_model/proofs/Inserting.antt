@@ -1,5 +1,5 @@
 -- Inserting into a list in an order.
-use Rattle.std.proofs.Common.{◌≡◌, ℕ, ◌+◌, Bool, true, false, ◌==◌, cond, if◌then◌else◌, List, [], ◌∷◌, map, arith, refl, ap, sym, ◌∙◌, sum_by}
+use Rattle.std.proofs.Common.{◌≡◌, ℕ, ◌+◌, Bool, true, false, ◌==◌, cond, List, [], ◌∷◌, map, arith, refl, ap, sum_by}
 use Rattle.std.proofs.lemmas.List.Sums.{sum_by-cons}
 use Rattle.mmt_model.specs.Counts.{as_number, occurrences}
 use Rattle.mmt_model.specs.Sorted.{insert_by}

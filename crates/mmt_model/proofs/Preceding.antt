@@ -1,8 +1,6 @@
 -- The order of lists of numbers.
-use Rattle.std.proofs.Common.{◌≡◌, ℕ, ◌+◌, ◌*◌, ◌^◌, ◌<◌, ◌≤◌, zero, suc, Bool, true, false, not, ◌&&◌, ◌||◌, ◌==◌, ◌⊎◌, inl, inr, nat_lt, nat_le, cond, if◌then◌else◌, max, List, [], ◌∷◌, ◌++◌, map, length, arith, refl, ap, ap₂, sym, ◌∙◌, ⊎_elim, filter, subst, true≢false}
-use Rattle.std.specs.List.{list_any}
-use Rattle.std.proofs.lemmas.Bool.Decides.{nat_tests}
-use Rattle.std.proofs.lemmas.Bool.{cases_eq, eq-eqb, ne_eqb, cases_lt, lt-ltb, le-ltb, ltb-false, ltb-true, eqb-true, cases_Bool, cases_order, and_parts, and_from, or_cases, or_left, or_right}
+use Rattle.std.proofs.Common.{◌≡◌, ℕ, ◌<◌, Bool, true, ◌&&◌, ◌||◌, ◌==◌, ◌⊎◌, inl, inr, nat_lt, List, [], ◌∷◌, length, arith, refl, ap₂, sym, ◌∙◌, ⊎_elim, true≢false}
+use Rattle.std.proofs.lemmas.Bool.{eq-eqb, lt-ltb, ltb-true, eqb-true, cases_order, and_parts, and_from, or_cases, or_left, or_right}
 use Rattle.mmt_model.specs.Handing.{precedes}
 
 before-cases : (x y : ℕ) (s : Bool) → (nat_lt x y || ((x == y) && s)) ≡ true → (x < y) ⊎ ((x ≡ y) × (s ≡ true))
@@ -38,8 +36,8 @@ before-through (x ∷ xs) (y ∷ ys) (z ∷ zs) a b =
     ⊎_elim
     (λ (l : x < y). ⊎_elim (λ (m : y < z). before-lt x z (precedes xs zs) (omega arith)) (λ (m : (y ≡ z) × (precedes ys zs ≡ true)). before-lt x z (precedes xs zs) (omega (arith, m.0))) (before-cases y z (precedes ys zs) b))
     (λ (l : (x ≡ y) × (precedes xs ys ≡ true)). ⊎_elim
-      (λ (m : y < z). before-lt x z (precedes xs zs) (omega (arith, l.0)))
-      (λ (m : (y ≡ z) × (precedes ys zs ≡ true)). before-eq x z (precedes xs zs) (l.0 ∙ m.0) (before-through xs ys zs l.1 m.1)) (before-cases y z (precedes ys zs) b))
+    (λ (m : y < z). before-lt x z (precedes xs zs) (omega (arith, l.0)))
+    (λ (m : (y ≡ z) × (precedes ys zs ≡ true)). before-eq x z (precedes xs zs) (l.0 ∙ m.0) (before-through xs ys zs l.1 m.1)) (before-cases y z (precedes ys zs) b))
     (before-cases x y (precedes xs ys) a)
 
 pub before-either : (xs ys : List ℕ) → length xs ≡ length ys → (xs ≡ ys → ⊥) → (precedes xs ys ≡ true) ⊎ (precedes ys xs ≡ true)
@@ -50,10 +48,10 @@ before-either (x ∷ xs) [] l ne = absurd (omega arith)
 before-either (x ∷ xs) (y ∷ ys) l ne =
     ⊎_elim
     (λ (e : x ≡ y). ⊎_elim
-      (λ (t : precedes xs ys ≡ true). inl (before-eq x y (precedes xs ys) e t))
-      (λ (t : precedes ys xs ≡ true). inr (before-eq y x (precedes ys xs) (sym e) t))
-      (before-either xs ys (omega arith) (λ f. ne (ap₂ (λ a l. a ∷ l) e f))))
+    (λ (t : precedes xs ys ≡ true). inl (before-eq x y (precedes xs ys) e t))
+    (λ (t : precedes ys xs ≡ true). inr (before-eq y x (precedes ys xs) (sym e) t))
+    (before-either xs ys (omega arith) (λ f. ne (ap₂ (λ a l. a ∷ l) e f))))
     (λ (o : (x < y) ⊎ (y < x)). ⊎_elim
-      (λ (lt : x < y). inl (before-lt x y (precedes xs ys) lt))
-      (λ (gt : y < x). inr (before-lt y x (precedes ys xs) gt)) o)
+    (λ (lt : x < y). inl (before-lt x y (precedes xs ys) lt))
+    (λ (gt : y < x). inr (before-lt y x (precedes ys xs) gt)) o)
     (cases_order x y)

@@ -1,6 +1,6 @@
 -- A cast with what is read of it: the packets with their payloads, the entries by which its MPUs are named, and its table copies and units with the places of their packets.
-use Rattle.std.specs.Prelude.{ℕ, zero, suc, ◌+◌, Bool, true, false, ◌&&◌, nat_lt, nat_le, List, [], ◌∷◌, max, length, get_or, if◌then◌else◌}
-use Rattle.std.specs.List.{list_any, list_all}
+use Rattle.std.specs.Prelude.{ℕ, zero, suc, ◌+◌, Bool, ◌&&◌, nat_le, List, [], ◌∷◌, max, get_or, if◌then◌else◌}
+use Rattle.std.specs.List.{list_any}
 use Rattle.mmt_base.specs.Ticks.{due_of}
 use Rattle.mmt_model.specs.Counts.{member}
 use Rattle.mmt_model.specs.Entries.{Entry, last_due}

@@ -1,5 +1,5 @@
 -- Deliveries: lists of places of a cast, lost, repeated and reordered, in the order in which they come.
-use Rattle.std.specs.Prelude.{ℕ, zero, suc, ◌+◌, ◌%◌, ◌≡◌, ◌<◌, ◌≤◌, Bool, true, ◌&&◌, ◌||◌, nat_lt, ◌==◌, List, [], ◌∷◌, ◌++◌, length, max, map, if◌then◌else◌}
+use Rattle.std.specs.Prelude.{ℕ, ◌+◌, ◌%◌, ◌<◌, Bool, ◌||◌, ◌==◌, List, [], ◌∷◌, max, if◌then◌else◌}
 use Rattle.mmt_model.specs.Survival.{latest, sent_at}
 use Rattle.mmt_model.specs.declared.casts.Sent.{Sent}
 

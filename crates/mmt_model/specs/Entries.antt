@@ -1,5 +1,5 @@
 -- The live entries: the MPUs that tables have named.
-use Rattle.std.specs.Prelude.{ℕ, ◌+◌, ◌/◌, Bool, true, false, not, ◌&&◌, nat_lt, ◌==◌, List, [], ◌∷◌, ◌++◌, length, max, if◌then◌else◌}
+use Rattle.std.specs.Prelude.{ℕ, Bool, not, ◌&&◌, nat_lt, ◌==◌, List, [], ◌∷◌, ◌++◌, length, max, if◌then◌else◌}
 use Rattle.std.specs.List.{filter, list_any, fold}
 use Rattle.mmt_base.specs.Ticks.{due_of, is_after, is_passed, low}
 use Rattle.mmt_model.specs.Keeping.{Outcome, clock, kept, outcome, still_kept}

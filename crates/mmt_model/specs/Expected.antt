@@ -1,5 +1,5 @@
 -- What a delivery is expected to hand out. It knows no clock, no pool and no state.
-use Rattle.std.specs.Prelude.{ℕ, zero, suc, ◌+◌, Bool, true, false, ◌&&◌, ◌||◌, nat_lt, nat_le, List, [], ◌∷◌, ◌++◌, length, map}
+use Rattle.std.specs.Prelude.{ℕ, zero, suc, Bool, false, ◌&&◌, ◌||◌, nat_lt, List, [], ◌∷◌, ◌++◌, length, map}
 use Rattle.std.specs.List.{filter, list_any, list_all}
 use Rattle.mmt_model.specs.Broadcast.{Broadcast, NamedCast, due_of_unit, presentation_of, unit_of}
 use Rattle.mmt_model.specs.Counts.{member}

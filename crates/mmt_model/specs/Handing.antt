@@ -1,6 +1,6 @@
 -- Which media units are handed out when.
-use Rattle.std.specs.Prelude.{ℕ, ◌+◌, ◌-◌, Bool, true, false, not, ◌&&◌, ◌||◌, nat_lt, nat_le, ◌==◌, List, [], ◌∷◌, ◌++◌, length, get_or, if◌then◌else◌}
-use Rattle.std.specs.List.{filter, list_any, flat_map}
+use Rattle.std.specs.Prelude.{ℕ, ◌-◌, Bool, false, ◌&&◌, ◌||◌, nat_lt, nat_le, ◌==◌, List, [], ◌∷◌, ◌++◌, length, get_or, if◌then◌else◌}
+use Rattle.std.specs.List.{filter, flat_map}
 use Rattle.mmt_base.specs.Ticks.{due_of, is_after, is_passed, low}
 use Rattle.mmt_model.specs.Entries.{Entry, entries}
 use Rattle.mmt_model.specs.Keeping.{clock, kept}
@@ -79,4 +79,4 @@ unfoldable pub final : Reading → Params → ℕ → List Heard → List Presen
 final g r start hist =
     sort_by is_presented_before
     (filter (λ d. is_after (low (due_of d.time)) (clock start hist))
-      (named_units g.sample_base (entries g.names_by r start hist) (g.units (kept r start hist))))
+    (named_units g.sample_base (entries g.names_by r start hist) (g.units (kept r start hist))))

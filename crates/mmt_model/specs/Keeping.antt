@@ -1,5 +1,5 @@
 -- The clock, lateness and the kept packets. A history is a list of heard packets, the newest first.
-use Rattle.std.specs.Prelude.{ℕ, ◌+◌, Bool, true, false, not, ◌&&◌, ◌||◌, nat_lt, ◌==◌, List, [], ◌∷◌, if◌then◌else◌}
+use Rattle.std.specs.Prelude.{ℕ, ◌+◌, Bool, not, ◌&&◌, ◌||◌, nat_lt, ◌==◌, List, [], ◌∷◌, if◌then◌else◌}
 use Rattle.std.specs.List.{filter, sum_by, list_any}
 use Rattle.mmt_base.specs.Ticks.{advance, is_after, plus}
 use Rattle.mmt_model.specs.Packets.{Heard}

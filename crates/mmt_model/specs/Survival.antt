@@ -1,5 +1,5 @@
 -- The packets of a cast, deliveries of them, and what survives. A place is the place of a packet in the cast. A history of a delivery is a list of places, the newest first. Ticks are whole.
-use Rattle.std.specs.Prelude.{ℕ, ◌+◌, ◌^◌, ◌≡◌, ◌<◌, ◌≤◌, Bool, true, false, not, ◌&&◌, ◌||◌, nat_lt, nat_le, ◌==◌, List, [], ◌∷◌, ◌++◌, max, length, get_or, if◌then◌else◌}
+use Rattle.std.specs.Prelude.{ℕ, ◌+◌, ◌<◌, Bool, true, false, not, ◌&&◌, ◌||◌, nat_lt, nat_le, ◌==◌, List, [], ◌∷◌, max, length, get_or}
 use Rattle.std.specs.List.{filter, sum_by, list_any}
 use Rattle.mmt_base.specs.Ticks.{low}
 use Rattle.mmt_model.specs.Packets.{Heard, Payload}

@@ -25,5 +25,7 @@ pub enum UnitKey {
         offset: u32,
     },
     /// An item of media that is not timed, by its id.
-    Item { item: u32 },
+    Item {
+        item: u32,
+    },
 }

@@ -6,6 +6,8 @@ mod casts;
 mod keys;
 mod lists;
 mod programmes;
+#[cfg(test)]
+mod tests;
 mod texts;
 
 pub use casts::{Carries, Cast, Sent, SentMpu, SentUnit, TableCopy};

@@ -1,6 +1,6 @@
 //! A list of values.
 
-ghost use Rattle.std.specs.Prelude.{◌≡◌, ℕ, List, [], ◌∷◌, ◌++◌, length, slice_get, option_copied, is_ok, OnOk, OnErr};
+ghost use Rattle.std.specs.Prelude.{◌≡◌, [], ◌∷◌, ◌++◌, length, slice_get, option_copied, OnOk, OnErr};
 
 use mmt_base::OutOfMemory;
 use std::alloc::Global;
@@ -44,7 +44,6 @@ impl<T> List<T> {
         self.items.len()
     }
 
-
     /// The items, in their order.
     pub fn as_slice(&self) -> &[T]
         ensures { result.now ≡ self.now }
@@ -57,13 +56,14 @@ impl<T> List<T> {
     pub fn get(&self, place: usize) -> Option<&T>
         ensures { option_copied result ≡ slice_get self.now place }
     {
-        self.items.as_slice().get(place)
+        self.as_slice().get(place)
     }
 
     /// Puts an item at the end. A refusal leaves the list as it was; it comes for want of memory
     /// alone.
     pub fn push(&mut self, item: T) -> Result<(), OutOfMemory>
-        where T: Drop
+    where
+        T: Drop,
         ensures pushed { OnOk result (self.new ≡ self.old ++ item ∷ []) }
         ensures refused { OnErr result (self.new ≡ self.old) }
     {

@@ -79,7 +79,9 @@ pub struct Asset {
 #[derive(Debug, Drop)]
 pub enum Signal {
     /// A buffer message.
-    Parameters { at: LongTick },
+    Parameters {
+        at: LongTick,
+    },
     /// A table (MPT) that names these MPUs, each by the place of its asset and its place there.
     Table {
         at: LongTick,
