@@ -4,7 +4,7 @@
 //! where the slice ends before the field does. `at` is the place of that byte in what is read as a
 //! whole. Numbers are big-endian. No reader takes memory.
 
-ghost use Rattle.std.specs.Prelude.{◌≡◌, ◌+◌, length, IfOk};
+ghost use Rattle.std.specs.Prelude.{◌≡◌, ◌+◌, length, IfOk, IfErr};
 ghost use Rattle.std.specs.Int.{w8, w16, w32, w64, w128};
 ghost use Rattle.mmt_fields.specs.Reading.{Gives, number_at};
 ghost use Rattle.mmt_fields.specs.Reading.{bytes_at as front_bytes};
@@ -16,6 +16,7 @@ use mmt_base::Refused;
 pub fn u8_at<W: Drop>(bytes: &[u8], at: u32, short: W) -> Result<(u8, &[u8]), Refused<W>>
     ensures gives { Gives (λ x. (x.0, x.1.now)) result (number_at w8 bytes.now at short) }
     ensures len { IfOk result (λ x. length x.1.now + 1 ≡ length bytes.now) }
+    ensures place { IfErr result (λ e. e.at ≡ at) }
 {
     match bytes.split_first_chunk::<1>() {
         Some((front, rest)) => Ok((u8::from_be_bytes(*front), rest)),
@@ -28,6 +29,7 @@ pub fn u8_at<W: Drop>(bytes: &[u8], at: u32, short: W) -> Result<(u8, &[u8]), Re
 pub fn u16_at<W: Drop>(bytes: &[u8], at: u32, short: W) -> Result<(u16, &[u8]), Refused<W>>
     ensures gives { Gives (λ x. (x.0, x.1.now)) result (number_at w16 bytes.now at short) }
     ensures len { IfOk result (λ x. length x.1.now + 2 ≡ length bytes.now) }
+    ensures place { IfErr result (λ e. e.at ≡ at) }
 {
     match bytes.split_first_chunk::<2>() {
         Some((front, rest)) => Ok((u16::from_be_bytes(*front), rest)),
@@ -40,6 +42,7 @@ pub fn u16_at<W: Drop>(bytes: &[u8], at: u32, short: W) -> Result<(u16, &[u8]), 
 pub fn u32_at<W: Drop>(bytes: &[u8], at: u32, short: W) -> Result<(u32, &[u8]), Refused<W>>
     ensures gives { Gives (λ x. (x.0, x.1.now)) result (number_at w32 bytes.now at short) }
     ensures len { IfOk result (λ x. length x.1.now + 4 ≡ length bytes.now) }
+    ensures place { IfErr result (λ e. e.at ≡ at) }
 {
     match bytes.split_first_chunk::<4>() {
         Some((front, rest)) => Ok((u32::from_be_bytes(*front), rest)),
@@ -52,6 +55,7 @@ pub fn u32_at<W: Drop>(bytes: &[u8], at: u32, short: W) -> Result<(u32, &[u8]), 
 pub fn u64_at<W: Drop>(bytes: &[u8], at: u32, short: W) -> Result<(u64, &[u8]), Refused<W>>
     ensures gives { Gives (λ x. (x.0, x.1.now)) result (number_at w64 bytes.now at short) }
     ensures len { IfOk result (λ x. length x.1.now + 8 ≡ length bytes.now) }
+    ensures place { IfErr result (λ e. e.at ≡ at) }
 {
     match bytes.split_first_chunk::<8>() {
         Some((front, rest)) => Ok((u64::from_be_bytes(*front), rest)),
@@ -64,6 +68,7 @@ pub fn u64_at<W: Drop>(bytes: &[u8], at: u32, short: W) -> Result<(u64, &[u8]), 
 pub fn u128_at<W: Drop>(bytes: &[u8], at: u32, short: W) -> Result<(u128, &[u8]), Refused<W>>
     ensures gives { Gives (λ x. (x.0, x.1.now)) result (number_at w128 bytes.now at short) }
     ensures len { IfOk result (λ x. length x.1.now + 16 ≡ length bytes.now) }
+    ensures place { IfErr result (λ e. e.at ≡ at) }
 {
     match bytes.split_first_chunk::<16>() {
         Some((front, rest)) => Ok((u128::from_be_bytes(*front), rest)),
@@ -81,6 +86,7 @@ pub fn bytes_at<W: Drop>(
 ) -> Result<(&[u8], &[u8]), Refused<W>>
     ensures gives { Gives (λ x. (x.0.now, x.1.now)) result (front_bytes count bytes.now at short) }
     ensures len { IfOk result (λ x. (length x.0.now ≡ count) × (length x.1.now + count ≡ length bytes.now)) }
+    ensures place { IfErr result (λ e. e.at ≡ at) }
 {
     match bytes.split_at_checked(count) {
         Some((front, rest)) => Ok((front, rest)),

@@ -1,6 +1,6 @@
 //! Reading a packet, field by field. A reader gives its field and the bytes after it.
 
-ghost use Rattle.std.specs.Prelude.{◌≡◌, ◌+◌, ◌<◌, ◌≤◌, ◌^◌, length, IfOk, Ok};
+ghost use Rattle.std.specs.Prelude.{◌≡◌, ◌+◌, ◌<◌, ◌≤◌, ◌^◌, length, IfOk, IfErr, Ok, if◌then◌else◌};
 ghost use Rattle.mmt_fields.specs.Reading.{Gives, optional_at};
 ghost use Rattle.mmt_packet.specs.Spelling.{Value, Fits, view, view_option, view_extension, spelling, is_scrambled as says_scrambled, two_bytes};
 ghost use Rattle.mmt_packet.specs.Reading.{packet_of, extension_at, extension_place as place_of, kind_of as kind_by, counter_at as number_after};
@@ -12,7 +12,9 @@ use mmt_fields::{bytes_at, u8_at, u16_at, u32_at};
 
 /// The packet counter, where it is there.
 fn counter_at(stands: bool, bytes: &[u8]) -> Result<(Option<u32>, &[u8]), Refused<PacketWhy>>
-    ensures { Gives (λ x. (x.0, x.1.now)) result (optional_at stands number_after bytes.now) }
+    ensures gives { Gives (λ x. (x.0, x.1.now)) result (optional_at stands number_after bytes.now) }
+    ensures len { IfOk result (λ x. 12 + length bytes.now ≡ (if stands then 16 else 12) + length x.1.now) }
+    ensures place { IfErr result (λ e. e.at ≤ 12 + length bytes.now) }
 {
     if !stands {
         return Ok((None, bytes));
@@ -46,7 +48,8 @@ fn is_scrambled(extension: &Extension<'_>) -> bool
 #[tactic(auto, unfolding(crate::specs::Reading::extension_at))]
 fn one_extension(at: u32, bytes: &[u8]) -> Result<(Extension<'_>, &[u8]), Refused<PacketWhy>>
     requires { at < 2 ^ 31 }
-    ensures { Gives (λ x. (view_extension x.0, x.1.now)) result (extension_at at bytes.now) }
+    ensures gives { Gives (λ x. (view_extension x.0, x.1.now)) result (extension_at at bytes.now) }
+    ensures place { IfErr result (λ e. e.at ≤ at + length bytes.now) }
 {
     let (kind, rest) = u16_at(bytes, at, PacketWhy::Short)?;
     let (len, rest) = u16_at(rest, at + 2, PacketWhy::Short)?;
@@ -68,7 +71,8 @@ fn optional_extension(
     bytes: &[u8],
 ) -> Result<(Option<Extension<'_>>, &[u8]), Refused<PacketWhy>>
     requires { at < 2 ^ 31 }
-    ensures { Gives (λ x. (view_option x.0, x.1.now)) result (optional_at stands (extension_at at) bytes.now) }
+    ensures gives { Gives (λ x. (view_option x.0, x.1.now)) result (optional_at stands (extension_at at) bytes.now) }
+    ensures place { IfErr result (λ e. e.at ≤ at + length bytes.now) }
 {
     if !stands {
         return Ok((None, bytes));
@@ -90,7 +94,8 @@ fn kind_of(code: u8) -> Kind
 
 /// The place at which the extension begins.
 fn extension_place(has_counter: bool) -> u32
-    ensures { result ≡ place_of has_counter }
+    ensures place { result ≡ place_of has_counter }
+    ensures number { result ≡ (if has_counter then 16 else 12) }
 {
     if has_counter { 16 } else { 12 }
 }
@@ -98,7 +103,8 @@ fn extension_place(has_counter: bool) -> u32
 /// The packet that the bytes are, or the first refusal.
 #[tactic(auto, unfolding(crate::specs::Reading::packet_of))]
 fn packet(bytes: &[u8]) -> Result<Packet<'_>, Refused<PacketWhy>>
-    ensures { Gives view result (packet_of bytes.now) }
+    ensures gives { Gives view result (packet_of bytes.now) }
+    ensures place { IfErr result (λ e. e.at ≤ length bytes.now) }
 {
     let (first, rest) = u8_at(bytes, 0, PacketWhy::Short)?;
     let version = first >> 6;
@@ -158,6 +164,8 @@ pub fn read_packet(bytes: &[u8]) -> Result<Packet<'_>, Refused<PacketWhy>>
     ensures only { (v : Value) → Fits v → bytes.now ≡ spelling v → Gives view result (Ok v) }
     // Which refusal it is, and where.
     ensures exact { Gives view result (packet_of bytes.now) }
+    // The place lies within the bytes, or directly behind them.
+    ensures place { IfErr result (λ e. e.at ≤ length bytes.now) }
 {
     packet(bytes)
 }

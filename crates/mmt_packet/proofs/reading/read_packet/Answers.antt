@@ -5,7 +5,7 @@ use Rattle.mmt_packet.proofs.Law.{packet_format}
 use Rattle.mmt_packet.proofs.reading.read_packet.Goals as goal
 
 pub returns-clause-found : goal.returns-clause-found
-returns-clause-found c = is_found packet_format view c.args.bytes.now c.packet.result (λ i. omega (arith, c.type_inv.bytes i)) c.packet.ensures
+returns-clause-found c = is_found packet_format view c.args.bytes.now c.packet.result (λ i. omega (arith, c.type_inv.bytes i)) c.packet.ensures.gives
 
 pub returns-clause-only : goal.returns-clause-only
-returns-clause-only c = is_only packet_format view c.args.bytes.now c.packet.result c.packet.ensures
+returns-clause-only c = is_only packet_format view c.args.bytes.now c.packet.result c.packet.ensures.gives
