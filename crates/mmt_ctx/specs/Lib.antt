@@ -1,0 +1,5 @@
+pub mod Spelling
+pub mod Reading
+pub mod Compressed
+pub mod Headers
+pub mod Squeezing

@@ -1,0 +1,19 @@
+-- What a hearer answers and keeps, as the definition of hearing sees it.
+use Rattle.std.specs.Prelude.{ℕ, List, Option}
+use Rattle.mmt_tlv.specs.Framing.{Packet}
+use Rattle.mmt_ip.specs.declared.packet.Ip6Header.{Ip6Header}
+use Rattle.mmt_ctx.specs.Headers.{HasRead}
+use Rattle.mmt_packet.specs.Spelling.{view}
+use Rattle.mmt_hear.specs.declared.hearer.Heard.{Heard}
+use Rattle.mmt_hear.specs.declared.hearer.Heard.TheVariants as heard
+use Rattle.mmt_hear.specs.Hearing.{Hearing, compressed_bodies}
+
+-- an answer without where it lies in memory
+abbrev pub hearing_of : Heard → Hearing
+hearing_of (heard.Packet packet from) = Hearing.Heard (view packet) from
+hearing_of heard.NotOurs = Hearing.NotOurs
+hearing_of (heard.Refused at why) = Hearing.Refusal at why
+
+-- a table of headers has those that these packets carried, the newest of them first
+abbrev pub HasHeard : List Packet → List (Option Ip6Header) → Type 0
+HasHeard earlier table = HasRead (compressed_bodies earlier) table
