@@ -1,0 +1,4 @@
+pub mod Holding
+pub mod Stored
+pub mod Outcome
+pub mod Doing

@@ -1,0 +1,10 @@
+//! The pool of kept packets, with their payloads: the receiver's buffer.
+#![tactic(auto)]
+
+mod pool;
+#[cfg(test)]
+mod tests;
+mod types;
+
+pub use pool::Pool;
+pub use types::{NotStored, Span};

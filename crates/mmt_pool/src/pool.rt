@@ -1,0 +1,227 @@
+//! The pool.
+
+ghost use Rattle.std.specs.Prelude.{◌≡◌, ℕ, ◌+◌, ◌<◌, ◌≤◌, ◌^◌, max, [], List, length, map, filter, true, false, IfOk, OnOk, OnErr, IfSome, IfNone, option_map, Some};
+ghost use Rattle.std.specs.List.{list_any};
+
+use crate::types::{NotStored, Span};
+use mmt_base::{OutOfMemory, Tick};
+use mmt_packet::{Kind, Packet};
+use std::alloc::Global;
+use std::collections::BTreeMap;
+use std::marker::Model;
+
+#[derive(Drop)]
+struct Stored {
+    time: Tick,
+    kind: Kind,
+    payload: Vec<u8>,
+}
+
+/// The kept packets of a receiver, each with a copy of its payload.
+#[derive(Drop)]
+pub struct Pool {
+    alloc: Global,
+    packets: BTreeMap<Span, Stored>,
+    total: u32,
+    bound: u32,
+    peak: u32,
+}
+
+impl Model for Pool {
+    ghost use Rattle.std.specs.Prelude.{◌≡◌, map};
+    ghost use Rattle.mmt_pool.specs.Holding.{Holding, IsSound, held};
+    ghost use Rattle.mmt_pool.specs.Stored.{entry_of, holding_of};
+
+    ghost Value = { Holding };
+
+    ghost view = { λ a. holding_of a.packets.entries a.bound a.peak };
+
+    ghost invariant = { λ a. IsSound (holding_of a.packets.entries a.bound a.peak) × (a.total ≡ held (map entry_of a.packets.entries)) };
+}
+
+// Some packet that is no longer in the window.
+fn expired(packets: &BTreeMap<Span, Stored>, clock: Tick, window: u32) -> Option<Span>
+    ensures { FindsExpired clock.0 window (map entry_of packets.now.entries) result }
+{
+    for (span, stored) in packets {
+        if !stored.time.plus(window).is_after(clock) {
+            return Some(*span);
+        }
+    }
+    None
+}
+
+ghost use Rattle.mmt_pool.specs.Doing.{FindsExpired};
+ghost use Rattle.mmt_pool.specs.Stored.{entry_of};
+
+impl Pool {
+    ghost use Rattle.mmt_pool.specs.Holding.{Kept, Holding, IsSound, IsKeepable, HasRoom, held, payload_at, kind_at, packet_at, is_at, is_kept_kind, is_in_window, IsInOrder, HasPart, part_at, LiesAt};
+    ghost use Rattle.mmt_pool.specs.Doing.{Stores, Refuses, Expires, of_packet, kept_as, with_packet};
+    ghost use Rattle.mmt_pool.specs.Outcome.{Follows};
+
+    /// An empty pool, for at most `bound` payload bytes.
+    ///
+    /// # Errors
+    ///
+    /// Want of memory.
+    pub fn new(alloc: Global, bound: u32) -> Result<Pool, OutOfMemory>
+        ensures { IfOk result (λ pool. pool ≡ record { kept = []; bound = bound; peak = 0 }) }
+    {
+        Ok(Pool {
+            alloc,
+            packets: BTreeMap::new(alloc),
+            total: 0,
+            bound,
+            peak: 0,
+        })
+    }
+
+    /// How many payload bytes are kept.
+    pub fn held(&self) -> u32
+        ensures sum { result ≡ held self.now.kept }
+        ensures bounded { result ≤ self.now.bound }
+        ensures peak { result ≤ self.now.peak }
+    {
+        self.total
+    }
+
+    /// The most payload bytes that were kept at once.
+    pub fn peak(&self) -> u32
+        ensures value { result ≡ self.now.peak }
+        ensures bounded { result ≤ self.now.bound }
+    {
+        self.peak
+    }
+
+    // Why the packet is not to be stored.
+    fn refusal(&self, clock: Tick, delay: u32, packet: &Packet<'_>) -> Option<NotStored>
+        requires { length packet.now.payload.now < 2 ^ 31 }
+        ensures refuses { Refuses self.now clock.0 delay (of_packet packet.now) result }
+        ensures sound { IsSound self.now }
+    {
+        let held = self.total;
+        if clock.is_after(packet.time.plus(delay)) {
+            return Some(NotStored::Late { clock });
+        }
+        let span = Span {
+            packet_id: packet.packet_id,
+            number: packet.number,
+        };
+        if self.packets.contains_key(&span) {
+            return Some(NotStored::Repeat);
+        }
+        let length = packet.payload.len() as u32;
+        if length > self.bound - held {
+            return Some(NotStored::Full { held, length });
+        }
+        None
+    }
+
+    // Keeps a copy of the payload of a new packet that there is room for.
+    fn put(&mut self, span: Span, time: Tick, kind: Kind, payload: &[u8]) -> Result<(), OutOfMemory>
+        requires room { HasRoom self.old (kept_as span time.0 kind payload.now) }
+        requires keepable { IsKeepable (kept_as span time.0 kind payload.now) }
+        ensures ok { OnOk result (self.new ≡ with_packet self.old (kept_as span time.0 kind payload.now)) }
+        ensures err { OnErr result (self.new ≡ self.old) }
+    {
+        let length = payload.len() as u32;
+        let payload = Vec::from_slice(self.alloc, payload)?;
+        let stored = Stored {
+            time,
+            kind,
+            payload,
+        };
+        self.packets.insert(span, stored)?;
+        self.total += length;
+        self.peak = self.peak.max(self.total);
+        Ok(())
+    }
+
+    /// Keeps a copy of a packet's payload, which stands in the TLV packet `tlv` at `from`. Ticks
+    /// are of 1/65536 second.
+    ///
+    /// # Errors
+    ///
+    /// The first that holds of `Late`, `Repeat` and `Full`, and last want of memory; the pool then
+    /// stays as it was.
+    pub fn store(
+        &mut self,
+        clock: Tick,
+        delay: u32,
+        tlv: &[u8],
+        from: u32,
+        packet: &Packet<'_>,
+    ) -> Result<Span, NotStored>
+        requires short { length tlv.now < 2 ^ 31 }
+        requires payload { LiesAt tlv.now from packet.now.payload.now }
+        requires kind { is_kept_kind packet.now.kind ≡ true }
+        ensures stores { Stores self.old clock.0 delay (of_packet packet.now) result self.new }
+        ensures bounded { held self.new.kept ≤ self.new.bound }
+        ensures in_order { IsInOrder self.new.kept }
+        ensures peak { self.new.peak ≡ max self.old.peak (held self.new.kept) }
+        ensures model { Follows self.old clock.0 delay (of_packet packet.now) result self.new }
+    {
+        if let Some(refusal) = self.refusal(clock, delay, packet) {
+            return Err(refusal);
+        }
+        let span = Span {
+            packet_id: packet.packet_id,
+            number: packet.number,
+        };
+        let from = from as usize;
+        let payload = &tlv[from..from + packet.payload.len()];
+        match self.put(span, packet.time, packet.kind, payload) {
+            Ok(()) => Ok(span),
+            Err(_) => Err(NotStored::OutOfMemory),
+        }
+    }
+
+    /// Takes out one packet whose timestamp plus the window is not after the clock; `None` where
+    /// there is none.
+    pub fn expire_one(&mut self, clock: Tick, window: u32) -> Option<Span>
+        ensures expires { Expires self.old clock.0 window result self.new }
+        ensures bounded { held self.new.kept ≤ self.new.bound }
+        ensures in_order { IsInOrder self.new.kept }
+        ensures peak { self.new.peak ≡ max self.old.peak (held self.new.kept) }
+        ensures stay { filter (is_in_window clock.0 window) self.new.kept ≡ filter (is_in_window clock.0 window) self.old.kept }
+        ensures fewer { IfSome result (λ _. length self.new.kept < length self.old.kept) }
+        ensures done { IfNone result (self.new.kept ≡ filter (is_in_window clock.0 window) self.old.kept) }
+    {
+        let span = expired(&self.packets, clock, window)?;
+        let Some(stored) = self.packets.remove(&span) else {
+            unreachable!()
+        };
+        self.total -= stored.payload.len() as u32;
+        Some(span)
+    }
+
+    /// The kind of a kept packet, `Mpu` or `Signalling`; `None` where the span is not kept.
+    pub fn kind(&self, span: Span) -> Option<Kind>
+        ensures kind { result ≡ kind_at self.now.kept span.packet_id span.number }
+        ensures kept { IfSome result (λ kind. is_kept_kind kind ≡ true) }
+    {
+        let stored = self.packets.get(&span)?;
+        Some(stored.kind)
+    }
+
+    /// The payload of a kept packet, lent; `None` where the span is not kept.
+    pub fn payload(&self, span: Span) -> Option<&[u8]>
+        ensures bytes { option_map (λ x. x.now) result ≡ payload_at self.now.kept span.packet_id span.number }
+        ensures short { IfSome result (λ x. length x.now < 2 ^ 31) }
+    {
+        let stored = self.packets.get(&span)?;
+        Some(&stored.payload)
+    }
+
+    /// So many bytes of a kept packet's payload from `from` on, lent.
+    pub fn part(&self, span: Span, from: u32, length: u32) -> &[u8]
+        requires { HasPart self.now.kept span.packet_id span.number from length }
+        ensures { part_at self.now.kept span.packet_id span.number from length ≡ Some result.now }
+    {
+        let from = from as usize;
+        match self.packets.get(&span) {
+            Some(stored) => &stored.payload[from..from + length as usize],
+            None => unreachable!(),
+        }
+    }
+}
