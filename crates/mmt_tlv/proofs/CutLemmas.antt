@@ -1,12 +1,12 @@
 -- What a run of feeds has cut, from call to call.
-use Rattle.std.proofs.Common.{◌≡◌, ℕ, ◌+◌, ◌-◌, ◌≤◌, Bool, true, false, List, [], ◌∷◌, ◌++◌, length, take, drop, refl, ap, sym, subst, ◌∙◌, arith, append_assoc}
-use Rattle.std.specs.Prelude.{◌<◌, Vec, Option, Some, None, get_or, flat_map}
+use Rattle.std.proofs.Common.{◌≡◌, ℕ, ◌+◌, ◌≤◌, Bool, true, false, List, [], ◌∷◌, ◌++◌, length, take, drop, refl, ap, sym, subst, ◌∙◌, arith, append_assoc}
+use Rattle.std.specs.Prelude.{◌<◌, Vec, get_or, flat_map}
 use Rattle.std.specs.declared.alloc.Global.{Global}
 use Rattle.std.proofs.lemmas.List.{append-nil, length-append, take-append-drop, take_more, flat_map_more}
 use Rattle.std.proofs.lemmas.Grind.{flat_map-append}
 use Rattle.mmt_tlv.specs.Framing.{Packet, spelling, joined, Framed}
-use Rattle.mmt_tlv.specs.Cutting.{Cutting, Feeds, Ends, StandsFor, next_place, next_held}
-use Rattle.mmt_tlv.specs.Frames.{bytes_of, spans_from, Cuts, CutOn, Frames}
+use Rattle.mmt_tlv.specs.Cutting.{Cutting, Feeds, Ends, next_place, next_held}
+use Rattle.mmt_tlv.specs.Frames.{bytes_of, spans_from, Cuts, Frames}
 use Rattle.mmt_tlv.specs.declared.stream.Span.{Span}
 use Rattle.mmt_tlv.specs.declared.stream.FrameEnd.TheVariants as how
 use Rattle.mmt_tlv.specs.declared.Fed.TheVariants as fed
@@ -50,7 +50,7 @@ cuts_packet stream piece used old new spans next place size t f at long pushed =
       whole = t.whole ∙ (ap (λ x. t.taken ++ x) (sym (take-append-drop used piece)) ∙ sym (append_assoc t.taken (take used piece) (drop used piece)));
       stands = n.stands;
       placed = pushed ∙ (ap (λ x. x ++ span place size ∷ []) t.placed ∙ (ap (λ k. spans_from 0 t.packets ++ span k size ∷ []) same_place
-      ∙ (ap (λ k. spans_from 0 t.packets ++ span (0 + length (joined t.packets)) k ∷ []) same_size ∙ sym (spans_from-push 0 t.packets n.packet))));
+          ∙ (ap (λ k. spans_from 0 t.packets ++ span (0 + length (joined t.packets)) k ∷ []) same_size ∙ sym (spans_from-push 0 t.packets n.packet))));
     }
 
 pub cuts_taken : (stream piece : List ℕ) (old new : Cutting) (spans : List Span) → Cuts stream piece old spans → Feeds old piece fed.Taken new → Cuts stream [] new spans

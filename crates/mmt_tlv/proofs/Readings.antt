@@ -3,7 +3,6 @@ use Rattle.std.proofs.Common.{◌≡◌, inr, ℕ, ◌≤◌, List, ◌++◌, le
 use Rattle.std.proofs.lemmas.List.{length-take, take-append-drop}
 use Rattle.mmt_tlv.specs.Framing.{Packet, Fits, spelling, IsFront, IsOutOfSync}
 use Rattle.mmt_tlv.specs.Reading.{packet_of, ReadsTlv, IsWhole}
-use Rattle.mmt_tlv.specs.declared.Tlv.{Tlv}
 use Rattle.mmt_tlv.specs.declared.TlvRead.{TlvRead}
 use Rattle.mmt_tlv.specs.declared.TlvRead.TheVariants.{Whole, Short, Sync}
 use Rattle.mmt_tlv.proofs.Unique.{same_packet, front_is_short, rest_is_short, front_in_sync}

@@ -1,4 +1,3 @@
-use Rattle.std.proofs.Common.{rules}
 use Rattle.mmt_tlv.proofs.CutLemmas.{frames_whole, frames_cut}
 use Rattle.mmt_tlv.proofs.stream.end_of.Goals as goal
 

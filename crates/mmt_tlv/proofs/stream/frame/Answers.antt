@@ -1,7 +1,6 @@
-use Rattle.std.proofs.Common.{◌≡◌, ℕ, ◌+◌, ◌<◌, ◌≤◌, List, [], rules, sym, subst, length, take, take_all, flat_map, arith}
-use Rattle.std.specs.Prelude.{get_or, Some, None, Option}
-use Rattle.mmt_tlv.specs.Cutting.{Cutting}
-use Rattle.mmt_tlv.specs.Frames.{bytes_of, Cuts, CutOn, Frames}
+use Rattle.std.proofs.Common.{◌≡◌, ℕ, ◌+◌, List, rules, sym, subst, take, take_all, flat_map, arith}
+use Rattle.std.specs.Prelude.{Option}
+use Rattle.mmt_tlv.specs.Frames.{bytes_of, Cuts, CutOn}
 use Rattle.mmt_tlv.proofs.CutLemmas.{cuts_at_start, cuts_next, next_within, frames_all}
 use Rattle.mmt_tlv.proofs.stream.frame.Goals as goal
 
