@@ -1,16 +1,15 @@
 -- What admission gives.
-use Rattle.std.proofs.Common.{◌≡◌, ℕ, ◌+◌, ◌-◌, ◌*◌, ◌%◌, ◌^◌, ◌<◌, ◌≤◌, ◌⊎◌, zero, suc, Bool, true, false, not, ◌&&◌, ◌||◌, ◌==◌, nat_lt, nat_le, cond, if◌then◌else◌, max, min, List, [], ◌∷◌, ◌++◌, map, length, get_or, take, arith, refl, ap, ap₂, sym, ◌∙◌, ⊎_elim, filter, subst, true≢false, count_by}
-use Rattle.std.specs.List.{list_any, list_all, flat_map}
-use Rattle.std.proofs.lemmas.Bool.Decides.{nat_tests}
-use Rattle.std.proofs.lemmas.Bool.{cases_eq, eq-eqb, eqb-true, eqb-false, ne_eqb, and_parts, and_from, or_cases, or_right, or_left, cases_Bool, ltb-true, leb-true, lt-ltb, le-ltb, le-leb, lt-leb, cases_lt, cases_order}
+use Rattle.std.proofs.Common.{◌≡◌, ℕ, ◌+◌, ◌^◌, ◌<◌, ◌≤◌, ◌⊎◌, zero, suc, Bool, true, false, ◌==◌, cond, List, [], ◌∷◌, ◌++◌, length, get_or, take, arith, refl, ap, ap₂, sym, ◌∙◌, ⊎_elim, count_by}
+use Rattle.std.specs.List.{list_any}
+use Rattle.std.proofs.lemmas.Bool.{eq-eqb, eqb-true, or_cases, or_right, or_left, cases_order}
 use Rattle.std.proofs.lemmas.List.Sums.{sum_by-cons}
 use Rattle.std.specs.List.{AllByRecursion}
+use Rattle.mmt_delivery.proofs.Admitted.{IsAdmitted, IsTimelyCopy, IsWellFormed, first_at}
 use Rattle.mmt_delivery.proofs.Finding.{IsApart}
-use Rattle.mmt_delivery.proofs.Premises.{IsNaming, IsPlaying, IsRightCopy, IsSound}
-use Rattle.mmt_delivery.specs.Admission.{IsAdmitted, IsTimelyCopy, IsWellFormed, first_at}
-use Rattle.mmt_delivery.specs.Layout.{numbers}
+use Rattle.mmt_delivery.proofs.Premises.{IsNaming, IsPlaying, IsRightCopy, IsSound, last_at}
 use Rattle.mmt_model.proofs.Preceding.{before-one_way}
-use Rattle.mmt_model.specs.Broadcast.{Broadcast, CopyPlaces, NamedCast, due_at, due_of_unit, last_at, presentation_of, unit_of}
+use Rattle.mmt_model.specs.Broadcast.{Broadcast, CopyPlaces, NamedCast, due_at, due_of_unit, presentation_of, unit_of}
+use Rattle.mmt_model.specs.Carrying.{numbers}
 use Rattle.mmt_model.specs.Counts.{member}
 use Rattle.mmt_model.specs.Entries.{Entry}
 use Rattle.mmt_model.specs.Handing.{key_numbers, order_numbers, precedes}
@@ -28,7 +27,7 @@ count-grows {X} p (x ∷ xs) zero (suc j) d l le t = omega (arith, sum_by-cons (
 count-grows {X} p (x ∷ xs) (suc i) (suc j) d l le t =
     omega (arith, sum_by-cons (λ (y : X). cond (p y) 1 0) x (take i xs), sum_by-cons (λ (y : X). cond (p y) 1 0) x (take j xs), count-grows p xs i j d (omega arith) (omega arith) t)
 
--- numbers that count the packets of an packet_id tell the packets apart
+-- numbers that count the packets of an id tell the packets apart
 pub apart : (broadcast : Broadcast) (r : Params) → IsAdmitted broadcast r → IsApart broadcast.cast.packets
 apart broadcast r admitted m n lm ln ids numbers =
     ⊎_elim (λ (e : m ≡ n). e)

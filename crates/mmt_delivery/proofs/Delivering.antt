@@ -1,8 +1,9 @@
 -- The delivery theorem.
-use Rattle.std.proofs.Common.{◌≡◌, ℕ, ◌+◌, ◌*◌, ◌^◌, ◌<◌, ◌≤◌, zero, suc, Bool, true, false, not, ◌&&◌, ◌||◌, ◌==◌, nat_lt, nat_le, cond, if◌then◌else◌, max, List, [], ◌∷◌, ◌++◌, map, length, arith, refl, ap, ap₂, sym, ◌∙◌, ⊎_elim, filter, subst, sum_by, append-nil, ◌%◌}
+use Rattle.std.proofs.Common.{◌≡◌, ℕ, ◌+◌, ◌<◌, ◌≤◌, Bool, true, false, ◌&&◌, ◌||◌, ◌==◌, nat_lt, nat_le, cond, max, List, [], ◌∷◌, ◌++◌, map, length, arith, refl, ap, ap₂, sym, ◌∙◌, filter, subst, sum_by, append-nil, ◌%◌}
 use Rattle.std.specs.List.{list_any}
 use Rattle.std.proofs.lemmas.Bool.{leb-true, lt-ltb}
 use Rattle.mmt_base.specs.Ticks.{low}
+use Rattle.mmt_delivery.proofs.Admitted.{IsAdmitted, IsWellFormed}
 use Rattle.mmt_delivery.proofs.Admitting.{apart, naming, playing, sound}
 use Rattle.mmt_delivery.proofs.Finding.{finding, found}
 use Rattle.mmt_delivery.proofs.Handing.{IsHistory, IsReading, delivered}
@@ -12,9 +13,9 @@ use Rattle.mmt_delivery.proofs.Known.{known, occurrences-known}
 use Rattle.mmt_delivery.proofs.Learning.{entries-known}
 use Rattle.mmt_delivery.proofs.Outs.{held-once}
 use Rattle.mmt_delivery.proofs.Premises.{Begins, IsNear, IsSound}
+use Rattle.mmt_delivery.proofs.Statements.{DeliversIn, HoldsIn, OutcomesIn}
 use Rattle.mmt_delivery.proofs.Telling.{telling}
-use Rattle.mmt_delivery.specs.Admission.{IsAdmitted, IsWellFormed}
-use Rattle.mmt_delivery.specs.Laws.{Delivers, HoldsAlways, IsReceiver, OutcomesAre, ShortIsNear, out_end, reading_of, start_heard}
+use Rattle.mmt_delivery.specs.Laws.{IsReceiver, ShortIsNear, out_end, reading_of, start_heard}
 use Rattle.mmt_model.proofs.Counting.{any-occurrences, occurrences-filter}
 use Rattle.mmt_model.specs.Broadcast.{Broadcast, due_at}
 use Rattle.mmt_model.specs.Counts.{as_number, occurrences}
@@ -53,7 +54,7 @@ unfolding latest
 latest-one p t = omega arith
 
 -- the history of the first packets of a near delivery
-history : (broadcast : Broadcast) (ds after : List ℕ) → AreOf broadcast.cast.packets.sent (ds ++ after) → NearDelivery broadcast.cast.packets.sent (ds ++ after) → IsHistory broadcast (start_of broadcast.cast.packets.sent ds) (newest_first ds)
+pub history : (broadcast : Broadcast) (ds after : List ℕ) → AreOf broadcast.cast.packets.sent (ds ++ after) → NearDelivery broadcast.cast.packets.sent (ds ++ after) → IsHistory broadcast (start_of broadcast.cast.packets.sent ds) (newest_first ds)
 unfolding newest_first onto start_of
 history broadcast [] after o near = record { of = tt; begins = tt; near = tt }
 history broadcast (t ∷ ds) after o near =
@@ -90,7 +91,7 @@ reading names_in broadcast r k admitted formed receiver =
       sound = sound broadcast r k admitted receiver.window receiver.delay receiver.bound;
     }
 
-room_of : (broadcast : Broadcast) (r k : Params) (start : ℕ) (hist : List ℕ) → IsAdmitted broadcast r → AreOf broadcast.cast.packets.sent hist → Begins broadcast.cast.packets.sent start hist
+pub room_of : (broadcast : Broadcast) (r k : Params) (start : ℕ) (hist : List ℕ) → IsAdmitted broadcast r → AreOf broadcast.cast.packets.sent hist → Begins broadcast.cast.packets.sent start hist
     → sum_by (length_of broadcast.cast.packets.sent) (held broadcast.cast.packets k start hist) ≤ load broadcast.cast.packets.sent r.window (latest broadcast.cast.packets.sent start hist) → sum_by (length_of broadcast.cast.packets.sent) (held broadcast.cast.packets k start hist) ≤ r.bound
 unfolding held
 room_of broadcast r k start [] admitted o b h = omega arith
@@ -99,7 +100,7 @@ room_of broadcast r k start (n ∷ older) admitted o b h =
     omega (arith, h, admitted.loads m.0 m.1, ap (load broadcast.cast.packets.sent r.window) m.2)
 
 -- what a receiver holds after any first packets of a near delivery
-pub holds : HoldsAlways
+pub holds : HoldsIn
 holds names_in broadcast r k admitted formed receiver ds after of near =
     let p : SentPackets = broadcast.cast.packets in
     let start : ℕ = start_of p.sent ds in
@@ -158,11 +159,11 @@ heard-of packets full_every (d ∷ ds) o = go ((full_every == 0) || (d % full_ev
     go true r = o
     go false r = r
 
-of-nothing : (packets : SentPackets) (ds : List ℕ) → AreOf packets.sent ds → AreOf packets.sent (ds ++ [])
+pub of-nothing : (packets : SentPackets) (ds : List ℕ) → AreOf packets.sent ds → AreOf packets.sent (ds ++ [])
 of-nothing packets [] o = tt
 of-nothing packets (d ∷ ds) o = (o.0, of-nothing packets ds o.1)
 
-near-nothing : (packets : SentPackets) (ds : List ℕ) → NearDelivery packets.sent ds → NearDelivery packets.sent (ds ++ [])
+pub near-nothing : (packets : SentPackets) (ds : List ℕ) → NearDelivery packets.sent ds → NearDelivery packets.sent (ds ++ [])
 near-nothing packets [] n = tt
 near-nothing packets (d ∷ ds) n = subst (NearAfter packets.sent (sent_at packets.sent d)) (sym (append-nil ds)) n
 
@@ -171,7 +172,7 @@ unfolding newest_first
 map-newest f xs = map-onto f xs []
 
 -- what comes out are the expected units
-pub delivers : Delivers
+pub delivers : DeliversIn
 unfolding out_end
 delivers names_in broadcast r k admitted formed receiver full_every tunes delivery of near =
     let p : SentPackets = broadcast.cast.packets in
@@ -198,11 +199,11 @@ pub newest-push : {X : Type 0} (xs : List X) (x : X) → newest_first (xs ++ x �
 unfolding newest_first
 newest-push xs x = onto-push xs x []
 
-fate_at : (broadcast : Broadcast) (r k : Params) (start d : ℕ) (older : List ℕ) → IsReceiver r k → IsSound broadcast.cast.packets k → IsHistory broadcast start (d ∷ older) → (t : Bool) → nat_le (latest broadcast.cast.packets.sent start (d ∷ older)) (sent_at broadcast.cast.packets.sent d + k.delay) ≡ t
+outcome_at : (broadcast : Broadcast) (r k : Params) (start d : ℕ) (older : List ℕ) → IsReceiver r k → IsSound broadcast.cast.packets k → IsHistory broadcast start (d ∷ older) → (t : Bool) → nat_le (latest broadcast.cast.packets.sent start (d ∷ older)) (sent_at broadcast.cast.packets.sent d + k.delay) ≡ t
     → cond t (cond (list_any (λ j. j == d) (within broadcast.cast.packets k (latest broadcast.cast.packets.sent start (d ∷ older)) (held broadcast.cast.packets k start older))) Outcome.Repeat Outcome.Stored) Outcome.Late
     ≡ cond t (cond (survives broadcast.cast.packets.sent k.delay older d) Outcome.Repeat Outcome.Stored) Outcome.Late
 unfolding within
-fate_at broadcast r k start d older receiver sound h true e =
+outcome_at broadcast r k start d older receiver sound h true e =
     let p : SentPackets = broadcast.cast.packets in
     let now : ℕ = latest p.sent start (d ∷ older) in
     let L : ℕ = latest p.sent start older in
@@ -222,9 +223,9 @@ fate_at broadcast r k start d older receiver sound h true e =
     back : (b : Bool) → nat_lt 0 (as_number (b && true)) ≡ b
     back true = refl
     back false = refl
-fate_at broadcast r k start d older receiver sound h false e = refl
+outcome_at broadcast r k start d older receiver sound h false e = refl
 
-pub outcomes : OutcomesAre
+pub outcomes : OutcomesIn
 outcomes names_in broadcast r k admitted formed receiver ds d after of near =
     let p : SentPackets = broadcast.cast.packets in
     let start : ℕ = start_of p.sent (ds ++ d ∷ []) in
@@ -235,15 +236,15 @@ outcomes names_in broadcast r k admitted formed receiver ds d after of near =
     let c = clock-low p start (d ∷ older) h.near in
     (λ i. outcome k (c i) (g.rest i) (heard_of p d))
     ∙ (g.fated
-    ∙ (fate_at broadcast r k start d older receiver sd h (nat_le (latest p.sent start (d ∷ older)) (sent_at p.sent d + k.delay)) refl
+    ∙ (outcome_at broadcast r k start d older receiver sd h (nat_le (latest p.sent start (d ∷ older)) (sent_at p.sent d + k.delay)) refl
     ∙ (λ i. cond (nat_le (latest p.sent start (sym (newest-push ds d) i)) (sent_at p.sent d + receiver.delay i)) (cond (survives p.sent (receiver.delay i) older d) Outcome.Repeat Outcome.Stored) Outcome.Late)))
 
 pub short_near : ShortIsNear
 short_near packets span [] o = tt
-short_near packets span (t ∷ ds) o = go ds (sent_at packets.sent t) (span t o.0) o.1
+short_near packets span (t ∷ ds) o = go ds (sent_at packets t) (span t o.0) o.1
   where
-    go : (ds : List ℕ) (l : ℕ) → (sent_at packets.sent 0 ≤ l) × (l < sent_at packets.sent 0 + reach) → AreOf packets.sent ds → NearAfter packets.sent l ds
+    go : (ds : List ℕ) (l : ℕ) → (sent_at packets 0 ≤ l) × (l < sent_at packets 0 + reach) → AreOf packets ds → NearAfter packets l ds
     go [] l h o = tt
     go (d ∷ ds) l h o =
         let s = span d o.0 in
-        (omega (arith, h.0, h.1, s.0, s.1), omega (arith, h.0, h.1, s.0, s.1), go ds (max l (sent_at packets.sent d)) (omega (arith, h.0), omega (arith, h.1, s.1)) o.1)
+        (omega (arith, h.0, h.1, s.0, s.1), omega (arith, h.0, h.1, s.0, s.1), go ds (max l (sent_at packets d)) (omega (arith, h.0), omega (arith, h.1, s.1)) o.1)

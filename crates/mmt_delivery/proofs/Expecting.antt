@@ -1,8 +1,8 @@
 -- Which units are expected, by the clock.
-use Rattle.std.proofs.Common.{◌≡◌, ℕ, ◌+◌, ◌-◌, ◌*◌, ◌/◌, ◌^◌, ◌<◌, ◌≤◌, zero, suc, Bool, true, false, not, ◌&&◌, ◌||◌, ◌==◌, nat_lt, nat_le, cond, if◌then◌else◌, max, List, [], ◌∷◌, ◌++◌, map, length, get_or, arith, refl, ap, ap₂, sym, ◌∙◌, ⊎_elim, filter, subst, true≢false, le_refl}
-use Rattle.std.specs.List.{list_any, list_all, flat_map, fold}
+use Rattle.std.proofs.Common.{◌≡◌, ℕ, ◌+◌, ◌-◌, ◌<◌, ◌≤◌, zero, suc, Bool, true, false, not, ◌&&◌, ◌||◌, ◌==◌, nat_lt, nat_le, max, List, [], ◌∷◌, length, get_or, arith, refl, ap, ap₂, sym, ◌∙◌, ⊎_elim, le_refl}
+use Rattle.std.specs.List.{list_all, fold}
 use Rattle.std.proofs.lemmas.Bool.Decides.{nat_tests}
-use Rattle.std.proofs.lemmas.Bool.{cases_eq, eq-eqb, ne_eqb, and_parts, and_from, and_cases, not-false, eqb-true, or_cases, or_right, or_left, or_parts, cases_Bool, ltb-true, leb-true, lt-ltb, le-ltb, le-leb, lt-leb, cases_lt, false_from_ne_true, cond_both}
+use Rattle.std.proofs.lemmas.Bool.{and_parts, eqb-true, or_cases, or_right, ltb-true, leb-true, lt-ltb, le-ltb, cond_both}
 use Rattle.mmt_base.specs.Ticks.{due_of}
 use Rattle.mmt_delivery.proofs.Known.{absorb, survives-step}
 use Rattle.mmt_delivery.proofs.Premises.{Begins, IsRightUnit}

@@ -1,20 +1,19 @@
 -- The units of kept packets are the units of the broadcast all of whose packets are kept.
-use Rattle.std.proofs.Common.{◌≡◌, ℕ, ◌+◌, ◌-◌, ◌*◌, ◌%◌, ◌^◌, ◌<◌, ◌≤◌, zero, suc, Bool, true, false, not, ◌&&◌, ◌||◌, ◌==◌, nat_lt, nat_le, cond, if◌then◌else◌, max, List, [], ◌∷◌, ◌++◌, map, length, get_or, Option, Some, None, arith, refl, ap, ap₂, sym, ◌∙◌, ⊎_elim, filter, subst, true≢false, sum_by}
+use Rattle.std.proofs.Common.{◌≡◌, ℕ, ◌+◌, ◌*◌, ◌<◌, ◌≤◌, zero, suc, Bool, true, false, ◌&&◌, ◌||◌, ◌==◌, nat_lt, nat_le, cond, List, [], ◌∷◌, ◌++◌, map, length, get_or, Option, Some, None, arith, refl, ap, ap₂, sym, ◌∙◌, ⊎_elim, filter}
 use Rattle.std.specs.List.{list_any, list_all, flat_map}
 use Rattle.std.proofs.lemmas.Bool.Decides.{nat_tests}
-use Rattle.std.proofs.lemmas.Bool.{cases_eq, eq-eqb, eqb-true, ne_eqb, and_parts, and_from, or_cases, or_right, or_left, cases_Bool, ltb-true, leb-true, lt-ltb, le-ltb, le-leb, lt-leb, cases_lt}
+use Rattle.std.proofs.lemmas.Bool.{cases_eq, eq-eqb, eqb-true, ne_eqb, and_parts, ltb-true, lt-ltb, le-leb, lt-leb, cases_lt}
 use Rattle.std.specs.List.{AllByRecursion}
+use Rattle.mmt_delivery.proofs.Cutting.{BeginsWith, IsAt, IsChain, IsCut, first_of, payload_of}
 use Rattle.mmt_delivery.proofs.Kept.{as_number-true, below_from_times}
 use Rattle.mmt_delivery.proofs.Learning.{length-map', ones}
 use Rattle.mmt_delivery.proofs.Loads.{sum_by-occurrences, upto, upto-le}
 use Rattle.mmt_delivery.proofs.Outs.{IsFinding}
 use Rattle.mmt_delivery.proofs.Sorting.{occurrences-append}
 use Rattle.mmt_delivery.proofs.Tests.{all-at, member-occurrences}
-use Rattle.mmt_delivery.specs.Cutting.{BeginsWith, IsAt, IsChain, IsCut, first_of, payload_of}
 use Rattle.mmt_model.proofs.Counting.{occurrences-filter}
 use Rattle.mmt_model.specs.Broadcast.{Broadcast, unit_of}
 use Rattle.mmt_model.specs.Counts.{as_number, member, occurrences}
-use Rattle.mmt_model.specs.Handing.{out}
 use Rattle.mmt_model.specs.Keeping.{kept}
 use Rattle.mmt_model.specs.Packets.{DataUnit, Heard, Payload}
 use Rattle.mmt_model.specs.Survival.{SentPackets, heard_of, no_packet}

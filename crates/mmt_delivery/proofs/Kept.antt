@@ -1,9 +1,9 @@
--- The kept list of the 32 as_number clock is the kept list of whole ticks.
-use Rattle.std.proofs.Common.{◌≡◌, ℕ, ◌+◌, ◌*◌, ◌^◌, ◌<◌, ◌≤◌, zero, suc, Bool, true, false, not, ◌&&◌, ◌||◌, ◌==◌, nat_lt, nat_le, cond, if◌then◌else◌, max, List, [], ◌∷◌, ◌++◌, map, length, get_or, arith, refl, ap, sym, ◌∙◌, ⊎_elim, filter, sum_by, subst, le_refl, ap₂}
+-- The kept list of the 32 bit clock is the kept list of whole ticks.
+use Rattle.std.proofs.Common.{◌≡◌, ℕ, ◌+◌, ◌^◌, ◌<◌, ◌≤◌, Bool, true, false, not, ◌&&◌, ◌||◌, ◌==◌, nat_lt, nat_le, cond, max, List, [], ◌∷◌, ◌++◌, map, length, get_or, arith, refl, ap, sym, ◌∙◌, ⊎_elim, filter, sum_by, le_refl, ap₂}
 use Rattle.std.specs.List.{list_any}
 use Rattle.std.proofs.lemmas.Bool.Decides.{nat_tests}
-use Rattle.std.proofs.lemmas.Bool.{cases_eq, eq-eqb, ne_eqb, and_parts, or_cases, ltb-true, cases_Bool, le-leb, le-ltb, cases_lt}
-use Rattle.std.proofs.lemmas.List.Sums.{sum_by-cons, sum_by_push}
+use Rattle.std.proofs.lemmas.Bool.{cases_eq, eq-eqb, ne_eqb, and_parts, or_cases, ltb-true, le-leb, le-ltb, cases_lt}
+use Rattle.std.proofs.lemmas.List.Sums.{sum_by-cons}
 use Rattle.mmt_base.proofs.TickLemmas.{advance-low, is_after-low, plus-low}
 use Rattle.mmt_base.specs.Ticks.{advance, low}
 use Rattle.mmt_delivery.proofs.Held.{begins-older, held, occurrences-held, place_before, within}
@@ -17,7 +17,6 @@ use Rattle.mmt_model.specs.Keeping.{Outcome, clock, is_in_time, is_in_window, is
 use Rattle.mmt_model.specs.Packets.{Heard}
 use Rattle.mmt_model.specs.Sorted.{insert_by}
 use Rattle.mmt_model.specs.Survival.{AreOf, SentPackets, heard_of, is_overtaken, latest, length_of, load, no_packet, sent_at, survives}
-use Rattle.mmt_model.specs.Units.{next_number}
 use Rattle.mmt_model.specs.declared.programmes.Params.{Params}
 
 pub as_number-true : (b : Bool) → 0 < as_number b → b ≡ true

@@ -1,8 +1,8 @@
 -- The entries over whole ticks, as places of the cast's MPUs.
-use Rattle.std.proofs.Common.{◌≡◌, ℕ, ◌+◌, ◌^◌, ◌<◌, ◌≤◌, zero, suc, Bool, true, false, not, ◌&&◌, ◌||◌, ◌==◌, nat_lt, nat_le, cond, if◌then◌else◌, max, List, [], ◌∷◌, ◌++◌, map, length, arith, refl, ap, ap₂, sym, ◌∙◌, ⊎_elim, filter, subst, true≢false}
-use Rattle.std.specs.List.{list_any, list_all, flat_map}
+use Rattle.std.proofs.Common.{◌≡◌, ℕ, ◌+◌, ◌^◌, ◌<◌, ◌≤◌, Bool, true, false, not, ◌&&◌, ◌||◌, ◌==◌, nat_lt, nat_le, cond, if◌then◌else◌, max, List, [], ◌∷◌, ◌++◌, length, arith, refl, ap, ap₂, sym, ◌∙◌, ⊎_elim, filter, true≢false}
+use Rattle.std.specs.List.{list_any, list_all}
 use Rattle.std.proofs.lemmas.Bool.Decides.{nat_tests}
-use Rattle.std.proofs.lemmas.Bool.{cases_eq, eq-eqb, ne_eqb, and_parts, and_from, and_cases, not-false, eqb-true, or_cases, or_right, or_left, cases_Bool, ltb-true, leb-true, lt-ltb, false_from_ne_true}
+use Rattle.std.proofs.lemmas.Bool.{ne_eqb, and_parts, and_cases, not-false, eqb-true, or_cases, or_right, or_left, ltb-true, leb-true, lt-ltb, false_from_ne_true}
 use Rattle.std.specs.List.{AllByRecursion}
 use Rattle.mmt_delivery.proofs.Held.{begins-older, held, in_time-survives, occurrences-held, occurrences-step, window-step, within}
 use Rattle.mmt_delivery.proofs.Kept.{held_facts, times_of_filter}
@@ -12,7 +12,6 @@ use Rattle.mmt_model.proofs.Counting.{any-occurrences, occurrences-filter, occur
 use Rattle.mmt_model.specs.Broadcast.{CopyPlaces, NamedCast, due_at}
 use Rattle.mmt_model.specs.Counts.{as_number, member, occurrences}
 use Rattle.mmt_model.specs.Expected.{is_complete, is_named}
-use Rattle.mmt_model.specs.Keeping.{kept}
 use Rattle.mmt_model.specs.Survival.{AreOf, SentPackets, latest, sent_at, survives}
 use Rattle.mmt_model.specs.declared.programmes.Params.{Params}
 

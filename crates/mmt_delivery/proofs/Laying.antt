@@ -1,15 +1,15 @@
 -- A layout cuts its units as the receiver joins them.
-use Rattle.std.proofs.Common.{◌≡◌, ℕ, ◌+◌, ◌-◌, ◌*◌, ◌%◌, ◌^◌, ◌<◌, ◌≤◌, ◌⊎◌, zero, suc, Bool, true, false, not, ◌&&◌, ◌||◌, ◌==◌, nat_lt, nat_le, cond, if◌then◌else◌, max, List, [], ◌∷◌, ◌++◌, map, length, get_or, arith, refl, ap, ap₂, sym, ◌∙◌, ⊎_elim, filter, subst, true≢false}
-use Rattle.std.specs.List.{list_any, list_all, flat_map}
+use Rattle.std.proofs.Common.{◌≡◌, ℕ, ◌+◌, ◌<◌, ◌≤◌, zero, suc, Bool, true, false, ◌&&◌, ◌==◌, nat_lt, nat_le, cond, List, [], ◌∷◌, map, length, get_or, arith, refl, ap, ap₂, sym, ◌∙◌, ⊎_elim, subst, true≢false}
 use Rattle.std.proofs.lemmas.Bool.Decides.{nat_tests}
-use Rattle.std.proofs.lemmas.Bool.{cases_eq, eq-eqb, eqb-true, eqb-false, ne_eqb, and_parts, and_from, or_cases, or_right, or_left, cases_Bool, ltb-true, leb-true, lt-ltb, le-ltb, le-leb, lt-leb, cases_lt, false_from_ne_true}
+use Rattle.std.proofs.lemmas.Bool.{cases_eq, eq-eqb, eqb-true, ne_eqb, and_parts, and_from, ltb-true, leb-true, lt-ltb, le-ltb, le-leb, lt-leb, cases_lt}
 use Rattle.std.specs.List.{AllByRecursion}
+use Rattle.mmt_delivery.proofs.Cutting.{BeginsWith, IsAt, IsChain, IsCut, IsFragmented, first_of, payload_of}
 use Rattle.mmt_delivery.proofs.Finding.{IsApart}
+use Rattle.mmt_delivery.proofs.Laid.{Holding, IsLaid, IsLaidUnit, IsPlaced, Layout, holds_part, payload_by, place_among, starts_by}
 use Rattle.mmt_delivery.proofs.Telling.{next_number-low}
 use Rattle.mmt_delivery.proofs.Tests.{same_tests}
-use Rattle.mmt_delivery.specs.Cutting.{BeginsWith, IsAt, IsChain, IsCut, IsFragmented, first_of, payload_of}
-use Rattle.mmt_delivery.specs.Layout.{Carries, IsLaid, IsLaidUnit, IsPlaced, Layout, has_part, numbers, payload_by, place_in, place_of, role, starts_by}
 use Rattle.mmt_model.specs.Broadcast.{Broadcast, unit_of}
+use Rattle.mmt_model.specs.Carrying.{numbers, place_of, role}
 use Rattle.mmt_model.specs.Counts.{as_number, occurrences}
 use Rattle.mmt_model.specs.Packets.{DataUnit, Payload}
 use Rattle.mmt_model.specs.Survival.{heard_of, no_packet}
@@ -22,19 +22,19 @@ pub record IsPartOf (broadcast : Broadcast) (l : Layout) (packet_id number u k :
   pub same_id : packet_id ≡ l.packet_id u
   pub same_number : number ≡ l.first u + k
 
-right_part : (broadcast : Broadcast) (l : Layout) (packet_id number u k : ℕ) (c : Carries) → IsPlaced broadcast l packet_id number c → has_part u k c ≡ true → IsPartOf broadcast l packet_id number u k
-unfolding has_part
-right_part broadcast l packet_id number u k (Carries.Whole v) r h =
+right_part : (broadcast : Broadcast) (l : Layout) (packet_id number u k : ℕ) (c : Holding) → IsPlaced broadcast l packet_id number c → holds_part u k c ≡ true → IsPartOf broadcast l packet_id number u k
+unfolding holds_part
+right_part broadcast l packet_id number u k (Holding.Whole v) r h =
     let p = and_parts (v == u) (k == 0) h in
     let e : v ≡ u = eqb-true v u p.0 in
     let z : k ≡ 0 = eqb-true k 0 p.1 in
     record { below = omega (arith, r.0, e); same_id = r.1 ∙ ap l.packet_id e; same_number = omega (arith, r.2, ap l.first e, z) }
-right_part broadcast l packet_id number u k (Carries.Fragment v j) r h =
+right_part broadcast l packet_id number u k (Holding.Fragment v j) r h =
     let p = and_parts (v == u) (k == j) h in
     let e : v ≡ u = eqb-true v u p.0 in
     let z : k ≡ j = eqb-true k j p.1 in
     record { below = omega (arith, r.0, e); same_id = r.1 ∙ ap l.packet_id e; same_number = omega (arith, r.2, ap l.first e, z) }
-right_part broadcast l packet_id number u k (Carries.Group f c) r h =
+right_part broadcast l packet_id number u k (Holding.Group f c) r h =
     let p = and_parts (nat_le f u && nat_lt u (f + c)) (k == 0) h in
     let q = and_parts (nat_le f u) (nat_lt u (f + c)) p.0 in
     let ge = leb-true f u q.0 in
@@ -42,9 +42,9 @@ right_part broadcast l packet_id number u k (Carries.Group f c) r h =
     let s = r.1 u ge lt in
     let z : k ≡ 0 = eqb-true k 0 p.1 in
     record { below = omega (arith, r.0, lt); same_id = s.0; same_number = omega (arith, s.1, z) }
-right_part broadcast l packet_id number u k (Carries.Parameters bytes) r h = absurd (true≢false (sym h))
-right_part broadcast l packet_id number u k (Carries.Table c) r h = absurd (true≢false (sym h))
-right_part broadcast l packet_id number u k (Carries.TablePart c j) r h = absurd (true≢false (sym h))
+right_part broadcast l packet_id number u k (Holding.Parameters bytes) r h = absurd (true≢false (sym h))
+right_part broadcast l packet_id number u k (Holding.Table c) r h = absurd (true≢false (sym h))
+right_part broadcast l packet_id number u k (Holding.TablePart c j) r h = absurd (true≢false (sym h))
 
 occurrences-numbers : (u f c : ℕ) → occurrences u (numbers f c) ≡ as_number (nat_le f u && nat_lt u (f + c))
 unfolding numbers
@@ -66,31 +66,31 @@ occurrences-numbers u f (suc c) =
     omega (arith, occurrences-numbers u (f + 1) c, ap as_number (ne_eqb f u ne), ap as_number same))
     (cases_eq f u)
 
-occurrences-starts : (u : ℕ) (c : Carries) → occurrences u (starts_by c) ≡ as_number (has_part u 0 c)
-unfolding starts_by has_part
-occurrences-starts u (Carries.Whole v) = go (v == u)
+occurrences-starts : (u : ℕ) (c : Holding) → occurrences u (starts_by c) ≡ as_number (holds_part u 0 c)
+unfolding starts_by holds_part
+occurrences-starts u (Holding.Whole v) = go (v == u)
   where
     go : (b : Bool) → as_number b + 0 ≡ as_number (b && true)
     go true = refl
     go false = refl
-occurrences-starts u (Carries.Fragment v zero) = go (v == u)
+occurrences-starts u (Holding.Fragment v zero) = go (v == u)
   where
     go : (b : Bool) → as_number b + 0 ≡ as_number (b && true)
     go true = refl
     go false = refl
-occurrences-starts u (Carries.Fragment v (suc k)) = ap as_number (sym (go (v == u)) ∙ ap (λ b. (v == u) && b) (sym (ne_eqb 0 (suc k) (omega arith))))
+occurrences-starts u (Holding.Fragment v (suc k)) = ap as_number (sym (go (v == u)) ∙ ap (λ b. (v == u) && b) (sym (ne_eqb 0 (suc k) (omega arith))))
   where
     go : (b : Bool) → (b && false) ≡ false
     go true = refl
     go false = refl
-occurrences-starts u (Carries.Group f c) = occurrences-numbers u f c ∙ ap as_number (go (nat_le f u && nat_lt u (f + c)))
+occurrences-starts u (Holding.Group f c) = occurrences-numbers u f c ∙ ap as_number (go (nat_le f u && nat_lt u (f + c)))
   where
     go : (b : Bool) → b ≡ (b && true)
     go true = refl
     go false = refl
-occurrences-starts u (Carries.Parameters bytes) = refl
-occurrences-starts u (Carries.Table c) = refl
-occurrences-starts u (Carries.TablePart c k) = refl
+occurrences-starts u (Holding.Parameters bytes) = refl
+occurrences-starts u (Holding.Table c) = refl
+occurrences-starts u (Holding.TablePart c k) = refl
 
 first_member : (broadcast : Broadcast) (l : Layout) (u : ℕ) → IsLaidUnit broadcast l u → first_of (unit_of broadcast u).members ≡ place_of broadcast.cast.packets.sent (l.packet_id u) (l.first u)
 first_member broadcast l u laid = ap first_of laid.members ∙ go (l.count u) laid.some
@@ -100,19 +100,19 @@ first_member broadcast l u laid = ap first_of laid.members ∙ go (l.count u) la
     go (suc c) h = unfold numbers in refl
 
 -- the packet with part k of a unit
-place-part : (broadcast : Broadcast) (l : Layout) (n u k : ℕ) → IsApart broadcast.cast.packets → IsLaid broadcast l → n < length broadcast.cast.packets.sent → has_part u k (l.carries n) ≡ true → k < l.count u
+place-part : (broadcast : Broadcast) (l : Layout) (n u k : ℕ) → IsApart broadcast.cast.packets → IsLaid broadcast l → n < length broadcast.cast.packets.sent → holds_part u k (l.holds n) ≡ true → k < l.count u
     → (u < length broadcast.units) × (n ≡ place_of broadcast.cast.packets.sent (l.packet_id u) (l.first u + k))
 place-part broadcast l n u k apart laid ln h lk =
-    let r = right_part broadcast l (get_or broadcast.cast.packets.sent n no_packet).packet_id (get_or broadcast.cast.packets.sent n no_packet).number u k (l.carries n) (laid.placed n ln) h in
+    let r = right_part broadcast l (get_or broadcast.cast.packets.sent n no_packet).packet_id (get_or broadcast.cast.packets.sent n no_packet).number u k (l.holds n) (laid.placed n ln) h in
     let at = ((laid.unit u r.below).each k lk).0 in
     (r.below, apart n (place_of broadcast.cast.packets.sent (l.packet_id u) (l.first u + k)) ln at.of (r.same_id ∙ sym at.has_id) (r.same_number ∙ sym at.has_number))
 
 once_by : (broadcast : Broadcast) (l : Layout) (u n : ℕ) → IsApart broadcast.cast.packets → IsLaid broadcast l → n < length broadcast.cast.packets.sent
-    → has_part u 0 (l.carries n) ≡ (nat_lt u (length broadcast.units) && (n == first_of (unit_of broadcast u).members))
+    → holds_part u 0 (l.holds n) ≡ (nat_lt u (length broadcast.units) && (n == first_of (unit_of broadcast u).members))
 once_by broadcast l u n apart laid ln =
-    same_tests (has_part u 0 (l.carries n)) (nat_lt u (length broadcast.units) && (n == first_of (unit_of broadcast u).members))
+    same_tests (holds_part u 0 (l.holds n)) (nat_lt u (length broadcast.units) && (n == first_of (unit_of broadcast u).members))
     (λ h.
-    let r = right_part broadcast l (get_or broadcast.cast.packets.sent n no_packet).packet_id (get_or broadcast.cast.packets.sent n no_packet).number u 0 (l.carries n) (laid.placed n ln) h in
+    let r = right_part broadcast l (get_or broadcast.cast.packets.sent n no_packet).packet_id (get_or broadcast.cast.packets.sent n no_packet).number u 0 (l.holds n) (laid.placed n ln) h in
     let unit = laid.unit u r.below in
     let p = place-part broadcast l n u 0 apart laid ln h (omega (arith, unit.some)) in
     let z : l.first u + 0 ≡ l.first u = omega arith in
@@ -124,35 +124,35 @@ once_by broadcast l u n apart laid ln =
     let unit = laid.unit u lu in
     let e : n ≡ place_of broadcast.cast.packets.sent (l.packet_id u) (l.first u) = eqb-true n (first_of (unit_of broadcast u).members) p.1 ∙ first_member broadcast l u unit in
     let z : l.first u ≡ l.first u + 0 = omega arith in
-    ap (λ i. has_part u 0 (l.carries i)) (e ∙ ap (place_of broadcast.cast.packets.sent (l.packet_id u)) z) ∙ (unit.each 0 (omega (arith, unit.some))).1)
+    ap (λ i. holds_part u 0 (l.holds i)) (e ∙ ap (place_of broadcast.cast.packets.sent (l.packet_id u)) z) ∙ (unit.each 0 (omega (arith, unit.some))).1)
 
 abbrev pub cut_data_unit : Layout → ℕ → ℕ → DataUnit
 cut_data_unit l u k = record { key = (l.data_unit u).key; priority = (l.data_unit u).priority; dependency = (l.data_unit u).dependency; bytes = l.part u k }
 
 -- part k of a unit with later parts is a joined_unit
-later-part : (l : Layout) (u k : ℕ) (c : Carries) → has_part u (suc k) c ≡ true → payload_by l c ≡ payload_by l (Carries.Fragment u (suc k))
-unfolding has_part
-later-part l u k (Carries.Whole v) h = absurd (nat-suc k (and_parts (v == u) (suc k == 0) h).1)
+later-part : (l : Layout) (u k : ℕ) (c : Holding) → holds_part u (suc k) c ≡ true → payload_by l c ≡ payload_by l (Holding.Fragment u (suc k))
+unfolding holds_part
+later-part l u k (Holding.Whole v) h = absurd (nat-suc k (and_parts (v == u) (suc k == 0) h).1)
   where
     nat-suc : (k : ℕ) → (suc k == 0) ≡ true → ⊥
     nat-suc k e = (let f = eqb-true (suc k) 0 e in omega arith)
-later-part l u k (Carries.Fragment v j) h =
+later-part l u k (Holding.Fragment v j) h =
     let p = and_parts (v == u) (suc k == j) h in
-    ap₂ (λ a b. payload_by l (Carries.Fragment a b)) (eqb-true v u p.0) (sym (eqb-true (suc k) j p.1))
-later-part l u k (Carries.Group f c) h = absurd (nat-suc k (and_parts (nat_le f u && nat_lt u (f + c)) (suc k == 0) h).1)
+    ap₂ (λ a b. payload_by l (Holding.Fragment a b)) (eqb-true v u p.0) (sym (eqb-true (suc k) j p.1))
+later-part l u k (Holding.Group f c) h = absurd (nat-suc k (and_parts (nat_le f u && nat_lt u (f + c)) (suc k == 0) h).1)
   where
     nat-suc : (k : ℕ) → (suc k == 0) ≡ true → ⊥
     nat-suc k e = (let f = eqb-true (suc k) 0 e in omega arith)
-later-part l u k (Carries.Parameters bytes) h = absurd (true≢false (sym h))
-later-part l u k (Carries.Table c) h = absurd (true≢false (sym h))
-later-part l u k (Carries.TablePart c j) h = absurd (true≢false (sym h))
+later-part l u k (Holding.Parameters bytes) h = absurd (true≢false (sym h))
+later-part l u k (Holding.Table c) h = absurd (true≢false (sym h))
+later-part l u k (Holding.TablePart c j) h = absurd (true≢false (sym h))
 
 same_self : (b : Bool) → same_flag b b ≡ true
 same_self true = refl
 same_self false = refl
 
 -- what a later part is to its rest_of_run
-link-part : (l : Layout) (u k : ℕ) → media_link (l.timed u) (l.mpu u) (payload_by l (Carries.Fragment u (suc k))) ≡ cond (suc k + 1 == l.count u) (Link.End (l.part u (suc k))) (Link.Inner (l.part u (suc k)))
+link-part : (l : Layout) (u k : ℕ) → media_link (l.timed u) (l.mpu u) (payload_by l (Holding.Fragment u (suc k))) ≡ cond (suc k + 1 == l.count u) (Link.End (l.part u (suc k))) (Link.Inner (l.part u (suc k)))
 unfolding payload_by role
 link-part l u k = rw (ne_eqb (suc k) 0 (omega arith)) (go (suc k + 1 == l.count u))
   where
@@ -171,8 +171,8 @@ part-at : (broadcast : Broadcast) (l : Layout) (u k : ℕ) → IsLaid broadcast 
 part-at broadcast l u k laid lu lk p is =
     let e = (laid.unit u lu).each (suc k) lk in
     let at : IsAt broadcast.cast.packets p (l.packet_id u) (l.first u + suc k) = subst (λ i. IsAt broadcast.cast.packets i (l.packet_id u) (l.first u + suc k)) (sym is) e.0 in
-    let has : has_part u (suc k) (l.carries p) ≡ true = ap (λ i. has_part u (suc k) (l.carries i)) is ∙ e.1 in
-    (at, ap (media_link (l.timed u) (l.mpu u)) (laid.payload p at.of ∙ later-part l u k (l.carries p) has) ∙ link-part l u k)
+    let has : holds_part u (suc k) (l.holds p) ≡ true = ap (λ i. holds_part u (suc k) (l.holds i)) is ∙ e.1 in
+    (at, ap (media_link (l.timed u) (l.mpu u)) (laid.payload p at.of ∙ later-part l u k (l.holds p) has) ∙ link-part l u k)
 
 -- the parts of a unit from one of them on are a chain
 chain : (broadcast : Broadcast) (l : Layout) (u : ℕ) → IsLaid broadcast l → u < length broadcast.units → (c j number : ℕ) → number ≡ l.first u + suc j → suc j + suc c ≡ l.count u
@@ -196,7 +196,7 @@ chain broadcast l u laid lu (suc c) j number is sum =
 
 -- what a unit is read as, from the packet that it begins in
 unit-is : (broadcast : Broadcast) (l : Layout) (n u : ℕ) (p : ℕ) (b : List ℕ) → IsLaidUnit broadcast l u → (n ≡ place_of broadcast.cast.packets.sent (l.packet_id u) (l.first u)) → IsAt broadcast.cast.packets n (l.packet_id u) (l.first u)
-    → place_in (l.carries n) u ≡ p → b ≡ (l.data_unit u).bytes → (mpu : ℕ) → mpu ≡ l.mpu u
+    → place_among (l.holds n) u ≡ p → b ≡ (l.data_unit u).bytes → (mpu : ℕ) → mpu ≡ l.mpu u
     → (unit_of broadcast u).value ≡ record { packet_id = (heard_of broadcast.cast.packets n).packet_id; mpu = mpu; key = (l.data_unit u).key; priority = (l.data_unit u).priority; dependency = (l.data_unit u).dependency; number = (heard_of broadcast.cast.packets n).number; place = p; bytes = b }
 unfolding heard_of
 unit-is broadcast l n u p b laid is at e f mpu m =
@@ -208,7 +208,7 @@ unit-is broadcast l n u p b laid is at e f mpu m =
       priority = (l.data_unit u).priority;
       dependency = (l.data_unit u).dependency;
       number = sym at.has_number i;
-      place = (ap (λ j. place_in (l.carries j) u) (sym is) ∙ e) i;
+      place = (ap (λ j. place_among (l.holds j) u) (sym is) ∙ e) i;
       bytes = sym f i;
     })
 
@@ -230,7 +230,7 @@ unfolding numbers
 each-numbers P f zero h = tt
 each-numbers P f (suc c) h = (h f (omega arith) (omega arith), each-numbers P (f + 1) c (λ u a b. h u (omega arith) (omega arith)))
 
-group-values : (broadcast : Broadcast) (l : Layout) (n f c : ℕ) → IsApart broadcast.cast.packets → IsLaid broadcast l → n < length broadcast.cast.packets.sent → l.carries n ≡ Carries.Group f c → IsPlaced broadcast l (get_or broadcast.cast.packets.sent n no_packet).packet_id (get_or broadcast.cast.packets.sent n no_packet).number (Carries.Group f c)
+group-values : (broadcast : Broadcast) (l : Layout) (n f c : ℕ) → IsApart broadcast.cast.packets → IsLaid broadcast l → n < length broadcast.cast.packets.sent → l.holds n ≡ Holding.Group f c → IsPlaced broadcast l (get_or broadcast.cast.packets.sent n no_packet).packet_id (get_or broadcast.cast.packets.sent n no_packet).number (Holding.Group f c)
     → (d k j : ℕ) → k ≡ f + j → j + d ≡ c → map (λ u. (unit_of broadcast u).value) (numbers k d) ≡ whole_units (heard_of broadcast.cast.packets n) (l.mpu f) j (map l.data_unit (numbers k d))
 unfolding numbers whole_units unit_from
 group-values broadcast l n f c apart laid ln is r zero k j a b = refl
@@ -238,15 +238,15 @@ group-values broadcast l n f c apart laid ln is r (suc d) k j a b =
     let s = r.1 k (omega arith) (omega arith) in
     let lk : k < length broadcast.units = omega (arith, r.0) in
     let unit = laid.unit k lk in
-    let has : has_part k 0 (l.carries n) ≡ true = ap (has_part k 0) is ∙ (unfold has_part in (and_from (nat_le f k && nat_lt k (f + c)) true (and_from (nat_le f k) (nat_lt k (f + c)) (le-leb f k (omega arith)) (lt-ltb k (f + c) (omega arith))) refl)) in
+    let has : holds_part k 0 (l.holds n) ≡ true = ap (holds_part k 0) is ∙ (unfold holds_part in (and_from (nat_le f k && nat_lt k (f + c)) true (and_from (nat_le f k) (nat_lt k (f + c)) (le-leb f k (omega arith)) (lt-ltb k (f + c) (omega arith))) refl)) in
     let p = place-part broadcast l n k 0 apart laid ln has (omega (arith, unit.some)) in
     let q = at-first broadcast l n k unit p.1 in
-    let pl : place_in (l.carries n) k ≡ j = ap (λ x. place_in x k) is ∙ (unfold place_in in (omega arith)) in
+    let pl : place_among (l.holds n) k ≡ j = ap (λ x. place_among x k) is ∙ (unfold place_among in (omega arith)) in
     ap₂ (λ x y. x ∷ y) (unit-is broadcast l n k j (l.data_unit k).bytes unit q.0 q.1 pl refl (l.mpu f) (sym s.4))
     (group-values broadcast l n f c apart laid ln is r d (k + 1) (j + 1) (omega arith) (omega arith))
 
-group-has : (u f c : ℕ) → f ≤ u → u < f + c → has_part u 0 (Carries.Group f c) ≡ true
-unfolding has_part
+group-has : (u f c : ℕ) → f ≤ u → u < f + c → holds_part u 0 (Holding.Group f c) ≡ true
+unfolding holds_part
 group-has u f c a b = and_from (nat_le f u && nat_lt u (f + c)) true (and_from (nat_le f u) (nat_lt u (f + c)) (le-leb f u a) (lt-ltb u (f + c) b)) refl
 
 chained : (broadcast : Broadcast) (l : Layout) (n u : ℕ) (rest : List ℕ) (parts : List (List ℕ)) → IsAt broadcast.cast.packets n (l.packet_id u) (l.first u) → next_number (l.first u) ≡ l.first u + 1
@@ -257,19 +257,19 @@ chained broadcast l n u rest parts at up ch =
     subst (λ i. IsChain broadcast.cast.packets (media_link (l.timed u) (l.mpu u)) i (next_number (get_or broadcast.cast.packets.sent n no_packet).number) rest parts) (sym at.has_id)
     (subst (λ k. IsChain broadcast.cast.packets (media_link (l.timed u) (l.mpu u)) (l.packet_id u) k rest parts) (sym (ap next_number at.has_number ∙ up)) ch)
 
-fragmented : (broadcast : Broadcast) (l : Layout) (n u : ℕ) → IsApart broadcast.cast.packets → IsLaid broadcast l → n < length broadcast.cast.packets.sent → l.carries n ≡ Carries.Fragment u 0
+fragmented : (broadcast : Broadcast) (l : Layout) (n u : ℕ) → IsApart broadcast.cast.packets → IsLaid broadcast l → n < length broadcast.cast.packets.sent → l.holds n ≡ Holding.Fragment u 0
     → (v : ℕ) × (u ∷ [] ≡ v ∷ []) × IsFragmented broadcast n v (l.timed u) (l.mpu u) (cut_data_unit l u 0)
 unfolding numbers unit_from
 fragmented broadcast l n u apart laid ln is =
     let r = subst (IsPlaced broadcast l (get_or broadcast.cast.packets.sent n no_packet).packet_id (get_or broadcast.cast.packets.sent n no_packet).number) is (laid.placed n ln) in
     let unit = laid.unit u r.0 in
-    let has : has_part u 0 (l.carries n) ≡ true = ap (has_part u 0) is ∙ (unfold has_part in (and_from (u == u) true (eq-eqb u u refl) refl)) in
+    let has : holds_part u 0 (l.holds n) ≡ true = ap (holds_part u 0) is ∙ (unfold holds_part in (and_from (u == u) true (eq-eqb u u refl) refl)) in
     let p = place-part broadcast l n u 0 apart laid ln has (omega (arith, unit.some)) in
     let q = at-first broadcast l n u unit p.1 in
-    let pl : place_in (l.carries n) u ≡ 0 = ap (λ x. place_in x u) is ∙ (unfold place_in in refl) in
+    let pl : place_among (l.holds n) u ≡ 0 = ap (λ x. place_among x u) is ∙ (unfold place_among in refl) in
     (u, refl, go broadcast l n u laid r.0 unit q.0 q.1 pl (l.count u) refl r.4)
   where
-    go : (broadcast : Broadcast) (l : Layout) (n u : ℕ) → IsLaid broadcast l → u < length broadcast.units → IsLaidUnit broadcast l u → (n ≡ place_of broadcast.cast.packets.sent (l.packet_id u) (l.first u)) → IsAt broadcast.cast.packets n (l.packet_id u) (l.first u) → place_in (l.carries n) u ≡ 0
+    go : (broadcast : Broadcast) (l : Layout) (n u : ℕ) → IsLaid broadcast l → u < length broadcast.units → IsLaidUnit broadcast l u → (n ≡ place_of broadcast.cast.packets.sent (l.packet_id u) (l.first u)) → IsAt broadcast.cast.packets n (l.packet_id u) (l.first u) → place_among (l.holds n) u ≡ 0
         → (c : ℕ) → l.count u ≡ c → 2 ≤ c → IsFragmented broadcast n u (l.timed u) (l.mpu u) (cut_data_unit l u 0)
     go broadcast l n u laid lu unit is at pl zero e h = absurd (omega arith)
     go broadcast l n u laid lu unit is at pl (suc zero) e h = absurd (omega arith)
@@ -285,23 +285,23 @@ fragmented broadcast l n u apart laid ln is =
           value = unit-is broadcast l n u 0 (joined (l.part u 0 ∷ map (l.part u) (numbers 1 (suc c)))) unit is at pl whole (l.mpu u) refl;
         }
 
-begins-by : (broadcast : Broadcast) (l : Layout) (n : ℕ) → IsApart broadcast.cast.packets → IsLaid broadcast l → n < length broadcast.cast.packets.sent → (c : Carries) → l.carries n ≡ c → BeginsWith broadcast (starts_by c) n (payload_by l c)
+begins-by : (broadcast : Broadcast) (l : Layout) (n : ℕ) → IsApart broadcast.cast.packets → IsLaid broadcast l → n < length broadcast.cast.packets.sent → (c : Holding) → l.holds n ≡ c → BeginsWith broadcast (starts_by c) n (payload_by l c)
 unfolding starts_by payload_by role whole_units unit_from
-begins-by broadcast l n apart laid ln (Carries.Whole u) is =
+begins-by broadcast l n apart laid ln (Holding.Whole u) is =
     let r = subst (IsPlaced broadcast l (get_or broadcast.cast.packets.sent n no_packet).packet_id (get_or broadcast.cast.packets.sent n no_packet).number) is (laid.placed n ln) in
     let unit = laid.unit u r.0 in
-    let has : has_part u 0 (l.carries n) ≡ true = ap (has_part u 0) is ∙ (unfold has_part in (and_from (u == u) true (eq-eqb u u refl) refl)) in
+    let has : holds_part u 0 (l.holds n) ≡ true = ap (holds_part u 0) is ∙ (unfold holds_part in (and_from (u == u) true (eq-eqb u u refl) refl)) in
     let p = place-part broadcast l n u 0 apart laid ln has (omega (arith, unit.some)) in
     let q = at-first broadcast l n u unit p.1 in
-    let pl : place_in (l.carries n) u ≡ 0 = ap (λ x. place_in x u) is ∙ (unfold place_in in refl) in
+    let pl : place_among (l.holds n) u ≡ 0 = ap (λ x. place_among x u) is ∙ (unfold place_among in refl) in
     (ap (λ x. x ∷ []) (unit-is broadcast l n u 0 (l.data_unit u).bytes unit q.0 q.1 pl refl (l.mpu u) refl), (one-member broadcast l n u unit q.0 r.3, tt))
-begins-by broadcast l n apart laid ln (Carries.Fragment u zero) is = fragmented broadcast l n u apart laid ln is
-begins-by broadcast l n apart laid ln (Carries.Fragment u (suc k)) is = rw (ne_eqb (suc k) 0 (omega arith)) (go (suc k + 1 == l.count u))
+begins-by broadcast l n apart laid ln (Holding.Fragment u zero) is = fragmented broadcast l n u apart laid ln is
+begins-by broadcast l n apart laid ln (Holding.Fragment u (suc k)) is = rw (ne_eqb (suc k) 0 (omega arith)) (go (suc k + 1 == l.count u))
   where
     go : (b : Bool) → BeginsWith broadcast [] n (Payload.Media (cond b parts.Last parts.Middle) (l.timed u) (l.mpu u) (cut_data_unit l u (suc k) ∷ []))
     go true = refl
     go false = refl
-begins-by broadcast l n apart laid ln (Carries.Group f c) is =
+begins-by broadcast l n apart laid ln (Holding.Group f c) is =
     let r = subst (IsPlaced broadcast l (get_or broadcast.cast.packets.sent n no_packet).packet_id (get_or broadcast.cast.packets.sent n no_packet).number) is (laid.placed n ln) in (
       group-values broadcast l n f c apart laid ln is r c f 0 (omega arith) (omega arith),
       each-numbers (λ u. (unit_of broadcast u).members ≡ n ∷ []) f c
@@ -309,19 +309,19 @@ begins-by broadcast l n apart laid ln (Carries.Group f c) is =
           let s = r.1 u a b in
           let lu : u < length broadcast.units = omega (arith, r.0) in
           let unit = laid.unit u lu in
-          let has : has_part u 0 (l.carries n) ≡ true = ap (has_part u 0) is ∙ group-has u f c a b in
+          let has : holds_part u 0 (l.holds n) ≡ true = ap (holds_part u 0) is ∙ group-has u f c a b in
           let p = place-part broadcast l n u 0 apart laid ln has (omega (arith, unit.some)) in
           one-member broadcast l n u unit (at-first broadcast l n u unit p.1).0 s.2),
     )
-begins-by broadcast l n apart laid ln (Carries.Parameters bytes) is = refl
-begins-by broadcast l n apart laid ln (Carries.Table c) is = refl
-begins-by broadcast l n apart laid ln (Carries.TablePart c k) is = refl
+begins-by broadcast l n apart laid ln (Holding.Parameters bytes) is = refl
+begins-by broadcast l n apart laid ln (Holding.Table c) is = refl
+begins-by broadcast l n apart laid ln (Holding.TablePart c k) is = refl
 
 -- a layout is a cut
-pub cut : (broadcast : Broadcast) (l : Layout) → IsApart broadcast.cast.packets → IsLaid broadcast l → ((u : ℕ) → u < length broadcast.units → (k : ℕ) → occurrences k (unit_of broadcast u).members ≤ 1) → IsCut broadcast (λ n. starts_by (l.carries n))
+pub cut : (broadcast : Broadcast) (l : Layout) → IsApart broadcast.cast.packets → IsLaid broadcast l → ((u : ℕ) → u < length broadcast.units → (k : ℕ) → occurrences k (unit_of broadcast u).members ≤ 1) → IsCut broadcast (λ n. starts_by (l.holds n))
 cut broadcast l apart laid distinct =
     record {
-      begins = λ n ln. subst (BeginsWith broadcast (starts_by (l.carries n)) n) (sym (laid.payload n ln)) (begins-by broadcast l n apart laid ln (l.carries n) refl);
-      once = λ u n ln. occurrences-starts u (l.carries n) ∙ ap as_number (once_by broadcast l u n apart laid ln);
+      begins = λ n ln. subst (BeginsWith broadcast (starts_by (l.holds n)) n) (sym (laid.payload n ln)) (begins-by broadcast l n apart laid ln (l.holds n) refl);
+      once = λ u n ln. occurrences-starts u (l.holds n) ∙ ap as_number (once_by broadcast l u n apart laid ln);
       distinct = distinct;
     }

@@ -1,15 +1,16 @@
 -- A layout cuts its table copies as the receiver joins them.
-use Rattle.std.proofs.Common.{◌≡◌, ℕ, ◌+◌, ◌-◌, ◌*◌, ◌%◌, ◌^◌, ◌<◌, ◌≤◌, ◌⊎◌, zero, suc, Bool, true, false, not, ◌&&◌, ◌||◌, ◌==◌, nat_lt, nat_le, cond, if◌then◌else◌, max, List, [], ◌∷◌, ◌++◌, map, length, get_or, arith, refl, ap, ap₂, sym, ◌∙◌, ⊎_elim, inl, inr, filter, subst, true≢false, append-nil}
-use Rattle.std.specs.List.{list_any, list_all, flat_map}
+use Rattle.std.proofs.Common.{◌≡◌, ℕ, ◌+◌, ◌-◌, ◌<◌, ◌≤◌, zero, suc, Bool, true, false, ◌==◌, nat_lt, cond, List, [], ◌∷◌, map, length, get_or, arith, refl, ap, ap₂, sym, ◌∙◌, ⊎_elim, inl, inr, filter, subst, true≢false, append-nil}
+use Rattle.std.specs.List.{list_any, flat_map}
 use Rattle.std.proofs.lemmas.Bool.Decides.{nat_tests}
-use Rattle.std.proofs.lemmas.Bool.{cases_eq, eq-eqb, eqb-true, eqb-false, ne_eqb, and_parts, and_from, or_cases, or_right, or_left, cases_Bool, ltb-true, ltb-false, leb-true, lt-ltb, le-ltb, le-leb, lt-leb, cases_lt, false_from_ne_true}
+use Rattle.std.proofs.lemmas.Bool.{cases_eq, eq-eqb, eqb-true, ne_eqb, and_parts, and_from, or_cases, or_right, or_left, ltb-false, false_from_ne_true}
 use Rattle.std.specs.List.{AllByRecursion}
+use Rattle.mmt_delivery.proofs.Cutting.{AreTables, IsAt, IsChain, IsTable, IsTablePart, NamesOf, payload_of}
 use Rattle.mmt_delivery.proofs.Finding.{IsApart}
+use Rattle.mmt_delivery.proofs.Laid.{AreLaidCopies, Holding, IsLaid, IsLaidCopy, IsPlaced, Layout, copy_at, head_by, holds_copy_part, no_copy, payload_by, tail_by}
 use Rattle.mmt_delivery.proofs.Telling.{next_number-low}
 use Rattle.mmt_delivery.proofs.Tests.{member-occurrences, same_tests}
-use Rattle.mmt_delivery.specs.Cutting.{AreTables, IsAt, IsChain, IsTable, IsTablePart, NamesOf, payload_of}
-use Rattle.mmt_delivery.specs.Layout.{AreLaidCopies, Carries, IsLaid, IsLaidCopy, IsPlaced, Layout, copy_at, has_copy_part, head_by, no_copy, numbers, payload_by, place_of, role, tail_by}
 use Rattle.mmt_model.specs.Broadcast.{Broadcast}
+use Rattle.mmt_model.specs.Carrying.{numbers, place_of, role}
 use Rattle.mmt_model.specs.Counts.{as_number, member, occurrences}
 use Rattle.mmt_model.specs.Entries.{Entry}
 use Rattle.mmt_model.specs.Packets.{Payload}
@@ -50,8 +51,8 @@ numbers-member f n a (suc c) zero l e = or_left (f a == n) (list_any (λ i. i ==
 numbers-member f n a (suc c) (suc k) l e = or_right (f a == n) (list_any (λ i. i == n) (map f (numbers (a + 1) c))) (numbers-member f n (a + 1) c k (omega arith) (e ∙ ap f (omega arith)))
 
 -- the copy that a packet is of
-which : (broadcast : Broadcast) (names_in : List ℕ → List Entry) (l : Layout) (n c k : ℕ) → AreLaidCopies broadcast names_in l → c < length broadcast.cast.copies → k < l.copy_count c → has_copy_part c k (l.carries n) ≡ true → n ≡ place_of broadcast.cast.packets.sent 0 (l.copy_first c + k)
-    → ((i j : ℕ) → has_copy_part i j (l.carries n) ≡ true → i ≡ c)
+which : (broadcast : Broadcast) (names_in : List ℕ → List Entry) (l : Layout) (n c k : ℕ) → AreLaidCopies broadcast names_in l → c < length broadcast.cast.copies → k < l.copy_count c → holds_copy_part c k (l.holds n) ≡ true → n ≡ place_of broadcast.cast.packets.sent 0 (l.copy_first c + k)
+    → ((i j : ℕ) → holds_copy_part i j (l.holds n) ≡ true → i ≡ c)
     → filter (λ c. member n c.members) broadcast.cast.copies ≡ copy_at broadcast c ∷ []
 unfolding copy_at
 which broadcast names_in l n c k laid lc lk has is only =
@@ -59,21 +60,21 @@ which broadcast names_in l n c k laid lc lk has is only =
     (λ i li. same_tests (member n (get_or broadcast.cast.copies i no_copy).members) (i == c)
     (λ m.
     let r = member-numbers (place_of broadcast.cast.packets.sent 0) n (l.copy_first i) (l.copy_count i) (ap (member n) (sym (laid.copy i li).members) ∙ m) in
-    let h : has_copy_part i r.0 (l.carries n) ≡ true = ap (λ p. has_copy_part i r.0 (l.carries p)) r.2 ∙ ((laid.copy i li).each r.0 r.1).1 in
+    let h : holds_copy_part i r.0 (l.holds n) ≡ true = ap (λ p. holds_copy_part i r.0 (l.holds p)) r.2 ∙ ((laid.copy i li).each r.0 r.1).1 in
     eq-eqb i c (only i r.0 h))
     (λ e.
     let s : i ≡ c = eqb-true i c e in
     ap (λ j. member n (get_or broadcast.cast.copies j no_copy).members) s
     ∙ (ap (member n) (laid.copy c lc).members ∙ numbers-member (place_of broadcast.cast.packets.sent 0) n (l.copy_first c) (l.copy_count c) k lk is)))
 
-no-copy : (broadcast : Broadcast) (names_in : List ℕ → List Entry) (l : Layout) (n : ℕ) → AreLaidCopies broadcast names_in l → ((i j : ℕ) → has_copy_part i j (l.carries n) ≡ false) → filter (λ c. member n c.members) broadcast.cast.copies ≡ []
+no-copy : (broadcast : Broadcast) (names_in : List ℕ → List Entry) (l : Layout) (n : ℕ) → AreLaidCopies broadcast names_in l → ((i j : ℕ) → holds_copy_part i j (l.holds n) ≡ false) → filter (λ c. member n c.members) broadcast.cast.copies ≡ []
 unfolding copy_at
 no-copy broadcast names_in l n laid none =
     filter-none (λ c. member n c.members) broadcast.cast.copies no_copy
     (λ i li. false_from_ne_true (member n (get_or broadcast.cast.copies i no_copy).members)
     (λ m.
     let r = member-numbers (place_of broadcast.cast.packets.sent 0) n (l.copy_first i) (l.copy_count i) (ap (member n) (sym (laid.copy i li).members) ∙ m) in
-    true≢false (sym (ap (λ p. has_copy_part i r.0 (l.carries p)) r.2 ∙ ((laid.copy i li).each r.0 r.1).1) ∙ none i r.0)))
+    true≢false (sym (ap (λ p. holds_copy_part i r.0 (l.holds p)) r.2 ∙ ((laid.copy i li).each r.0 r.1).1) ∙ none i r.0)))
 
 zero_by : (n : ℕ) (ks : List ℕ) → (member n ks ≡ true → ⊥) → occurrences n ks ≡ 0
 zero_by n ks h =
@@ -105,25 +106,25 @@ distinct-places packets packet_id a (suc c) n at =
     (cases_eq (place_of packets.sent packet_id a) n)
 
 -- later parts of a table
-later-copy : (broadcast : Broadcast) (l : Layout) (c k : ℕ) (packet_id number : ℕ) (x : Carries) → 2 ≤ l.copy_count c → IsPlaced broadcast l packet_id number x → has_copy_part c k x ≡ true → x ≡ Carries.TablePart c k
-unfolding has_copy_part
-later-copy broadcast l c k packet_id number (Carries.Table d) two r h =
+later-copy : (broadcast : Broadcast) (l : Layout) (c k : ℕ) (packet_id number : ℕ) (x : Holding) → 2 ≤ l.copy_count c → IsPlaced broadcast l packet_id number x → holds_copy_part c k x ≡ true → x ≡ Holding.TablePart c k
+unfolding holds_copy_part
+later-copy broadcast l c k packet_id number (Holding.Table d) two r h =
     let p = and_parts (d == c) (k == 0) h in absurd (omega (arith, two, r.3, ap l.copy_count (eqb-true d c p.0)))
-later-copy broadcast l c k packet_id number (Carries.TablePart d j) two r h =
-    let p = and_parts (d == c) (k == j) h in ap₂ Carries.TablePart (eqb-true d c p.0) (sym (eqb-true k j p.1))
-later-copy broadcast l c k packet_id number (Carries.Whole u) two r h = absurd (true≢false (sym h))
-later-copy broadcast l c k packet_id number (Carries.Fragment u j) two r h = absurd (true≢false (sym h))
-later-copy broadcast l c k packet_id number (Carries.Group f n) two r h = absurd (true≢false (sym h))
-later-copy broadcast l c k packet_id number (Carries.Parameters bytes) two r h = absurd (true≢false (sym h))
+later-copy broadcast l c k packet_id number (Holding.TablePart d j) two r h =
+    let p = and_parts (d == c) (k == j) h in ap₂ Holding.TablePart (eqb-true d c p.0) (sym (eqb-true k j p.1))
+later-copy broadcast l c k packet_id number (Holding.Whole u) two r h = absurd (true≢false (sym h))
+later-copy broadcast l c k packet_id number (Holding.Fragment u j) two r h = absurd (true≢false (sym h))
+later-copy broadcast l c k packet_id number (Holding.Group f n) two r h = absurd (true≢false (sym h))
+later-copy broadcast l c k packet_id number (Holding.Parameters bytes) two r h = absurd (true≢false (sym h))
 
 part-carries : (broadcast : Broadcast) (names_in : List ℕ → List Entry) (l : Layout) (c k : ℕ) → IsLaid broadcast l → IsLaidCopy broadcast names_in l c → 2 ≤ l.copy_count c → k < l.copy_count c
-    → l.carries (place_of broadcast.cast.packets.sent 0 (l.copy_first c + k)) ≡ Carries.TablePart c k
+    → l.holds (place_of broadcast.cast.packets.sent 0 (l.copy_first c + k)) ≡ Holding.TablePart c k
 part-carries broadcast names_in l c k laid copy two lk =
     let e = copy.each k lk in
     let p : ℕ = place_of broadcast.cast.packets.sent 0 (l.copy_first c + k) in
-    later-copy broadcast l c k (get_or broadcast.cast.packets.sent p no_packet).packet_id (get_or broadcast.cast.packets.sent p no_packet).number (l.carries p) two (laid.placed p (e.0).of) e.1
+    later-copy broadcast l c k (get_or broadcast.cast.packets.sent p no_packet).packet_id (get_or broadcast.cast.packets.sent p no_packet).number (l.holds p) two (laid.placed p (e.0).of) e.1
 
-link-copy : (l : Layout) (c k : ℕ) → signal_link (payload_by l (Carries.TablePart c (suc k))) ≡ cond (suc k + 1 == l.copy_count c) (Link.End (l.copy_part c (suc k))) (Link.Inner (l.copy_part c (suc k)))
+link-copy : (l : Layout) (c k : ℕ) → signal_link (payload_by l (Holding.TablePart c (suc k))) ≡ cond (suc k + 1 == l.copy_count c) (Link.End (l.copy_part c (suc k))) (Link.Inner (l.copy_part c (suc k)))
 unfolding payload_by role signal_link
 link-copy l c k = rw (ne_eqb (suc k) 0 (omega arith)) (go (suc k + 1 == l.copy_count c))
   where
@@ -135,7 +136,7 @@ copy-part : (broadcast : Broadcast) (names_in : List ℕ → List Entry) (l : La
     → IsAt broadcast.cast.packets (place_of broadcast.cast.packets.sent 0 number) 0 number × (signal_link (payload_of broadcast.cast.packets (place_of broadcast.cast.packets.sent 0 number)) ≡ cond (suc j + 1 == l.copy_count c) (Link.End (l.copy_part c (suc j))) (Link.Inner (l.copy_part c (suc j))))
 copy-part broadcast names_in l c j number laid copy two lt is =
     let at : IsAt broadcast.cast.packets (place_of broadcast.cast.packets.sent 0 number) 0 number = subst (λ k. IsAt broadcast.cast.packets (place_of broadcast.cast.packets.sent 0 k) 0 k) (sym is) (copy.each (suc j) lt).0 in
-    let cs : l.carries (place_of broadcast.cast.packets.sent 0 number) ≡ Carries.TablePart c (suc j) = ap (λ k. l.carries (place_of broadcast.cast.packets.sent 0 k)) is ∙ part-carries broadcast names_in l c (suc j) laid copy two lt in
+    let cs : l.holds (place_of broadcast.cast.packets.sent 0 number) ≡ Holding.TablePart c (suc j) = ap (λ k. l.holds (place_of broadcast.cast.packets.sent 0 k)) is ∙ part-carries broadcast names_in l c (suc j) laid copy two lt in
     (at, ap signal_link (laid.payload (place_of broadcast.cast.packets.sent 0 number) at.of ∙ ap (payload_by l) cs) ∙ link-copy l c j)
 
 copy-chain : (broadcast : Broadcast) (names_in : List ℕ → List Entry) (l : Layout) (c : ℕ) → IsLaid broadcast l → IsLaidCopy broadcast names_in l c → 2 ≤ l.copy_count c → (d j number : ℕ) → number ≡ l.copy_first c + suc j → suc j + suc d ≡ l.copy_count c
@@ -156,16 +157,16 @@ copy-chain broadcast names_in l c laid copy two (suc d) j number is sum =
     )
 
 abbrev pub heads : Broadcast → Layout → ℕ → ℕ
-heads broadcast l n = head_by broadcast l n (l.carries n)
+heads broadcast l n = head_by broadcast l n (l.holds n)
 
 abbrev pub tails : Broadcast → Layout → ℕ → List ℕ
-tails broadcast l n = tail_by broadcast l (l.carries n)
+tails broadcast l n = tail_by broadcast l (l.holds n)
 
-head-part : (broadcast : Broadcast) (l : Layout) (n c k : ℕ) → l.carries n ≡ Carries.TablePart c k → heads broadcast l n ≡ place_of broadcast.cast.packets.sent 0 (l.copy_first c)
+head-part : (broadcast : Broadcast) (l : Layout) (n c k : ℕ) → l.holds n ≡ Holding.TablePart c k → heads broadcast l n ≡ place_of broadcast.cast.packets.sent 0 (l.copy_first c)
 unfolding head_by
 head-part broadcast l n c k e = ap (head_by broadcast l n) e
 
-tail-part : (broadcast : Broadcast) (l : Layout) (n c k d : ℕ) → l.carries n ≡ Carries.TablePart c k → l.copy_count c ≡ suc (suc d) → tails broadcast l n ≡ map (place_of broadcast.cast.packets.sent 0) (numbers (l.copy_first c + 1) (suc d))
+tail-part : (broadcast : Broadcast) (l : Layout) (n c k d : ℕ) → l.holds n ≡ Holding.TablePart c k → l.copy_count c ≡ suc (suc d) → tails broadcast l n ≡ map (place_of broadcast.cast.packets.sent 0) (numbers (l.copy_first c + 1) (suc d))
 unfolding tail_by
 tail-part broadcast l n c k d e s = ap (tail_by broadcast l) e ∙ ap (λ i. map (place_of broadcast.cast.packets.sent 0) (numbers (l.copy_first c + 1) i)) (let z : l.copy_count c - 1 ≡ suc d = omega arith in z)
 
@@ -186,7 +187,7 @@ table-of broadcast names_in l c d f laid copy s is =
     let z : l.copy_first c + 0 ≡ l.copy_first c = omega arith in
     let is' : f ≡ place_of broadcast.cast.packets.sent 0 (l.copy_first c + 0) = is ∙ ap (place_of broadcast.cast.packets.sent 0) (sym z) in
     let at : IsAt broadcast.cast.packets f 0 (l.copy_first c + 0) = subst (λ i. IsAt broadcast.cast.packets i 0 (l.copy_first c + 0)) (sym is') (copy.each 0 (omega (arith, s))).0 in
-    let cs : l.carries f ≡ Carries.TablePart c 0 = ap l.carries is' ∙ part-carries broadcast names_in l c 0 laid copy two (omega (arith, s)) in
+    let cs : l.holds f ≡ Holding.TablePart c 0 = ap l.holds is' ∙ part-carries broadcast names_in l c 0 laid copy two (omega (arith, s)) in
     let tail_is = tail-part broadcast l f c 0 d cs s in
     let number : (get_or broadcast.cast.packets.sent f no_packet).number ≡ l.copy_first c = at.has_number ∙ z in
     let up : next_number (l.copy_first c) ≡ l.copy_first c + 1 = next_number-low (l.copy_first c) (omega (arith, s, copy.low)) in
@@ -210,7 +211,7 @@ table-of broadcast names_in l c d f laid copy s is =
             (each-map (λ k. heads broadcast l k ≡ f) (place_of broadcast.cast.packets.sent 0) (l.copy_first c + 1) (suc d)
             (λ i li.
             let e : l.copy_first c + 1 + i ≡ l.copy_first c + suc i = omega arith in
-            head-part broadcast l (place_of broadcast.cast.packets.sent 0 (l.copy_first c + 1 + i)) c (suc i) (ap (λ k. l.carries (place_of broadcast.cast.packets.sent 0 k)) e ∙ part-carries broadcast names_in l c (suc i) laid copy two (omega (arith, s))) ∙ sym is)),
+            head-part broadcast l (place_of broadcast.cast.packets.sent 0 (l.copy_first c + 1 + i)) c (suc i) (ap (λ k. l.holds (place_of broadcast.cast.packets.sent 0 k)) e ∙ part-carries broadcast names_in l c (suc i) laid copy two (omega (arith, s))) ∙ sym is)),
       );
     }
   where
@@ -218,16 +219,16 @@ table-of broadcast names_in l c d f laid copy s is =
     length-places f a zero = refl
     length-places f a (suc c) = ap suc (length-places f (a + 1) c)
 
-only_one : (c k i j : ℕ) → has_copy_part i j (Carries.TablePart c k) ≡ true → i ≡ c
-unfolding has_copy_part
+only_one : (c k i j : ℕ) → holds_copy_part i j (Holding.TablePart c k) ≡ true → i ≡ c
+unfolding holds_copy_part
 only_one c k i j h = sym (eqb-true c i (and_parts (c == i) (j == k) h).0)
 
-first-part : (l : Layout) (c : ℕ) → payload_by l (Carries.TablePart c 0) ≡ Payload.Signalling parts.First (l.copy_part c 0 ∷ [])
+first-part : (l : Layout) (c : ℕ) → payload_by l (Holding.TablePart c 0) ≡ Payload.Signalling parts.First (l.copy_part c 0 ∷ [])
 unfolding payload_by role
 first-part l c = refl
 
 -- a part of a table copy
-part-of : (broadcast : Broadcast) (names_in : List ℕ → List Entry) (l : Layout) (n c k d : ℕ) → IsApart broadcast.cast.packets → IsLaid broadcast l → AreLaidCopies broadcast names_in l → n < length broadcast.cast.packets.sent → l.carries n ≡ Carries.TablePart c k → l.copy_count c ≡ suc (suc d)
+part-of : (broadcast : Broadcast) (names_in : List ℕ → List Entry) (l : Layout) (n c k d : ℕ) → IsApart broadcast.cast.packets → IsLaid broadcast l → AreLaidCopies broadcast names_in l → n < length broadcast.cast.packets.sent → l.holds n ≡ Holding.TablePart c k → l.copy_count c ≡ suc (suc d)
     → IsTablePart broadcast.cast names_in (heads broadcast l) (tails broadcast l) n
 unfolding numbers table-of
 part-of broadcast names_in l n c k d apart laid copies ln is s =
@@ -237,16 +238,16 @@ part-of broadcast names_in l n c k d apart laid copies ln is s =
     let z : l.copy_first c + 0 ≡ l.copy_first c = omega arith in
     let at = (copy.each k r.3).0 in
     let here : n ≡ place_of broadcast.cast.packets.sent 0 (l.copy_first c + k) = apart n (place_of broadcast.cast.packets.sent 0 (l.copy_first c + k)) ln at.of (r.1 ∙ sym at.has_id) (r.2 ∙ sym at.has_number) in
-    let has : has_copy_part c k (l.carries n) ≡ true = ap (has_copy_part c k) is ∙ (unfold has_copy_part in (and_from (c == c) (k == k) (eq-eqb c c refl) (eq-eqb k k refl))) in
+    let has : holds_copy_part c k (l.holds n) ≡ true = ap (holds_copy_part c k) is ∙ (unfold holds_copy_part in (and_from (c == c) (k == k) (eq-eqb c c refl) (eq-eqb k k refl))) in
     let hd : heads broadcast l n ≡ f = head-part broadcast l n c k is in
-    let cf : l.carries f ≡ Carries.TablePart c 0 = ap (λ i. l.carries (place_of broadcast.cast.packets.sent 0 i)) (sym z) ∙ part-carries broadcast names_in l c 0 laid copy (omega (arith, s)) (omega (arith, s)) in
+    let cf : l.holds f ≡ Holding.TablePart c 0 = ap (λ i. l.holds (place_of broadcast.cast.packets.sent 0 i)) (sym z) ∙ part-carries broadcast names_in l c 0 laid copy (omega (arith, s)) (omega (arith, s)) in
     let tl : tails broadcast l (heads broadcast l n) ≡ map (place_of broadcast.cast.packets.sent 0) (numbers (l.copy_first c + 1) (suc d)) = ap (tails broadcast l) hd ∙ tail-part broadcast l f c 0 d cf s in
     let all : (copy_at broadcast c).members ≡ heads broadcast l n ∷ tails broadcast l (heads broadcast l n) =
     copy.members ∙ (ap (λ i. map (place_of broadcast.cast.packets.sent 0) (numbers (l.copy_first c) i)) s ∙ ap₂ (λ x y. x ∷ y) (sym hd) (sym tl)) in
     let f_of : f < length broadcast.cast.packets.sent = subst (λ i. place_of broadcast.cast.packets.sent 0 i < length broadcast.cast.packets.sent) z ((copy.each 0 (omega (arith, s))).0).of in
     record {
       copy = copy_at broadcast c;
-      only = which broadcast names_in l n c k copies r.0 r.3 has here (λ i j h. only_one c k i j (ap (has_copy_part i j) (sym is) ∙ h));
+      only = which broadcast names_in l n c k copies r.0 r.3 has here (λ i j h. only_one c k i j (ap (holds_copy_part i j) (sym is) ∙ h));
       members = all;
       is_in = ap (member n) (sym all) ∙ (ap (member n) copy.members ∙ numbers-member (place_of broadcast.cast.packets.sent 0) n (l.copy_first c) (l.copy_count c) k r.3 here);
       bytes = l.copy_part c 0;
@@ -263,8 +264,8 @@ one-name : (names_in : List ℕ → List Entry) (part : ℕ → List ℕ) → na
 unfolding numbers
 one-name names_in part = ap names_in (append-nil (part 0)) ∙ sym (append-nil (names_in (part 0)))
 
-by_part : (broadcast : Broadcast) (names_in : List ℕ → List Entry) (l : Layout) (n c k : ℕ) → IsApart broadcast.cast.packets → IsLaid broadcast l → AreLaidCopies broadcast names_in l → n < length broadcast.cast.packets.sent → l.carries n ≡ Carries.TablePart c k
-    → (count : ℕ) → l.copy_count c ≡ count → 2 ≤ count → NamesOf broadcast.cast names_in (heads broadcast l) (tails broadcast l) n (payload_by l (Carries.TablePart c k))
+by_part : (broadcast : Broadcast) (names_in : List ℕ → List Entry) (l : Layout) (n c k : ℕ) → IsApart broadcast.cast.packets → IsLaid broadcast l → AreLaidCopies broadcast names_in l → n < length broadcast.cast.packets.sent → l.holds n ≡ Holding.TablePart c k
+    → (count : ℕ) → l.copy_count c ≡ count → 2 ≤ count → NamesOf broadcast.cast names_in (heads broadcast l) (tails broadcast l) n (payload_by l (Holding.TablePart c k))
 unfolding payload_by role
 by_part broadcast names_in l n c k apart laid copies ln is zero e h = absurd (omega arith)
 by_part broadcast names_in l n c k apart laid copies ln is (suc zero) e h = absurd (omega arith)
@@ -284,31 +285,31 @@ by_part broadcast names_in l n c (suc k) apart laid copies ln is (suc (suc d)) e
 
 -- what each packet names_by
 names_by-by : (broadcast : Broadcast) (names_in : List ℕ → List Entry) (l : Layout) (n : ℕ) → IsApart broadcast.cast.packets → IsLaid broadcast l → AreLaidCopies broadcast names_in l → n < length broadcast.cast.packets.sent
-    → (c : Carries) → l.carries n ≡ c → NamesOf broadcast.cast names_in (heads broadcast l) (tails broadcast l) n (payload_by l c)
-unfolding payload_by has_copy_part
-names_by-by broadcast names_in l n apart laid copies ln (Carries.Whole u) is = no-copy broadcast names_in l n copies (λ i j. ap (has_copy_part i j) is)
-names_by-by broadcast names_in l n apart laid copies ln (Carries.Fragment u k) is = no-copy broadcast names_in l n copies (λ i j. ap (has_copy_part i j) is)
-names_by-by broadcast names_in l n apart laid copies ln (Carries.Group f c) is = no-copy broadcast names_in l n copies (λ i j. ap (has_copy_part i j) is)
-names_by-by broadcast names_in l n apart laid copies ln (Carries.Parameters bytes) is =
-    inl (no-copy broadcast names_in l n copies (λ i j. ap (has_copy_part i j) is), append-nil (names_in bytes) ∙ copies.parameters n bytes ln is)
-names_by-by broadcast names_in l n apart laid copies ln (Carries.Table c) is =
+    → (c : Holding) → l.holds n ≡ c → NamesOf broadcast.cast names_in (heads broadcast l) (tails broadcast l) n (payload_by l c)
+unfolding payload_by holds_copy_part
+names_by-by broadcast names_in l n apart laid copies ln (Holding.Whole u) is = no-copy broadcast names_in l n copies (λ i j. ap (holds_copy_part i j) is)
+names_by-by broadcast names_in l n apart laid copies ln (Holding.Fragment u k) is = no-copy broadcast names_in l n copies (λ i j. ap (holds_copy_part i j) is)
+names_by-by broadcast names_in l n apart laid copies ln (Holding.Group f c) is = no-copy broadcast names_in l n copies (λ i j. ap (holds_copy_part i j) is)
+names_by-by broadcast names_in l n apart laid copies ln (Holding.Parameters bytes) is =
+    inl (no-copy broadcast names_in l n copies (λ i j. ap (holds_copy_part i j) is), append-nil (names_in bytes) ∙ copies.parameters n bytes ln is)
+names_by-by broadcast names_in l n apart laid copies ln (Holding.Table c) is =
     let r = subst (IsPlaced broadcast l (get_or broadcast.cast.packets.sent n no_packet).packet_id (get_or broadcast.cast.packets.sent n no_packet).number) is (laid.placed n ln) in
     let copy = copies.copy c r.0 in
     let z : l.copy_first c + 0 ≡ l.copy_first c = omega arith in
     let at = (copy.each 0 (omega (arith, r.3))).0 in
     let here : n ≡ place_of broadcast.cast.packets.sent 0 (l.copy_first c + 0) = apart n (place_of broadcast.cast.packets.sent 0 (l.copy_first c + 0)) ln at.of (r.1 ∙ sym at.has_id) (r.2 ∙ (sym z ∙ sym at.has_number)) in
-    let has : has_copy_part c 0 (l.carries n) ≡ true = ap (has_copy_part c 0) is ∙ and_from (c == c) true (eq-eqb c c refl) refl in
+    let has : holds_copy_part c 0 (l.holds n) ≡ true = ap (holds_copy_part c 0) is ∙ and_from (c == c) true (eq-eqb c c refl) refl in
     inr (
       copy_at broadcast c,
-      which broadcast names_in l n c 0 copies r.0 (omega (arith, r.3)) has here (λ i j h. sym (eqb-true c i (and_parts (c == i) (j == 0) (ap (has_copy_part i j) (sym is) ∙ h)).0)),
+      which broadcast names_in l n c 0 copies r.0 (omega (arith, r.3)) has here (λ i j h. sym (eqb-true c i (and_parts (c == i) (j == 0) (ap (holds_copy_part i j) (sym is) ∙ h)).0)),
       copy.members ∙ (ap (λ i. map (place_of broadcast.cast.packets.sent 0) (numbers (l.copy_first c) i)) r.3 ∙ one-place broadcast l n c (here ∙ ap (place_of broadcast.cast.packets.sent 0) z)),
       copy.names ∙ (ap (λ i. names_in (joined (map (l.copy_part c) (numbers 0 i)))) r.3 ∙ one-name names_in (l.copy_part c)),
     )
-names_by-by broadcast names_in l n apart laid copies ln (Carries.TablePart c k) is =
+names_by-by broadcast names_in l n apart laid copies ln (Holding.TablePart c k) is =
     let r = subst (IsPlaced broadcast l (get_or broadcast.cast.packets.sent n no_packet).packet_id (get_or broadcast.cast.packets.sent n no_packet).number) is (laid.placed n ln) in
     by_part broadcast names_in l n c k apart laid copies ln is (l.copy_count c) refl r.4
 
 -- a layout has right tables
 pub tables : (broadcast : Broadcast) (names_in : List ℕ → List Entry) (l : Layout) → IsApart broadcast.cast.packets → IsLaid broadcast l → AreLaidCopies broadcast names_in l → AreTables broadcast.cast names_in (heads broadcast l) (tails broadcast l)
 tables broadcast names_in l apart laid copies =
-    record { names_by = λ n ln. subst (NamesOf broadcast.cast names_in (heads broadcast l) (tails broadcast l) n) (sym (laid.payload n ln)) (names_by-by broadcast names_in l n apart laid copies ln (l.carries n) refl) }
+    record { names_by = λ n ln. subst (NamesOf broadcast.cast names_in (heads broadcast l) (tails broadcast l) n) (sym (laid.payload n ln)) (names_by-by broadcast names_in l n apart laid copies ln (l.holds n) refl) }

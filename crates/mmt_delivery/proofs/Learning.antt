@@ -1,8 +1,8 @@
--- The entries of the 32 as_number clock are those of whole ticks.
-use Rattle.std.proofs.Common.{◌≡◌, ℕ, ◌+◌, ◌*◌, ◌^◌, ◌<◌, ◌≤◌, zero, suc, Bool, true, false, not, ◌&&◌, ◌||◌, ◌==◌, nat_lt, nat_le, cond, if◌then◌else◌, max, List, [], ◌∷◌, ◌++◌, map, length, get_or, arith, refl, ap, ap₂, sym, ◌∙◌, ⊎_elim, filter, sum_by, subst, true≢false}
-use Rattle.std.specs.List.{list_any, list_all, flat_map}
+-- The entries of the 32 bit clock are those of whole ticks.
+use Rattle.std.proofs.Common.{◌≡◌, ℕ, ◌+◌, ◌*◌, ◌^◌, ◌<◌, ◌≤◌, zero, suc, Bool, true, false, not, ◌&&◌, ◌||◌, ◌==◌, nat_lt, nat_le, cond, max, List, [], ◌∷◌, ◌++◌, map, length, arith, refl, ap, sym, ◌∙◌, ⊎_elim, filter, sum_by, true≢false}
+use Rattle.std.specs.List.{list_any, list_all}
 use Rattle.std.proofs.lemmas.Bool.Decides.{nat_tests}
-use Rattle.std.proofs.lemmas.Bool.{cases_eq, eq-eqb, ne_eqb, and_parts, and_from, and_cases, not-false, eqb-true, or_cases, or_right, or_left, cases_Bool, ltb-true, leb-true, lt-ltb, le-leb, cases_lt, false_from_ne_true, or_parts}
+use Rattle.std.proofs.lemmas.Bool.{cases_eq, eq-eqb, ne_eqb, and_parts, and_from, or_right, or_left, cases_Bool, ltb-true, lt-ltb, le-leb, cases_lt, or_parts}
 use Rattle.std.proofs.lemmas.List.Sums.{sum_by-cons}
 use Rattle.std.specs.List.{AllByRecursion}
 use Rattle.mmt_base.proofs.TickLemmas.{is_after-low, is_passed-low}
@@ -11,11 +11,11 @@ use Rattle.mmt_delivery.proofs.Held.{begins-older, held, occurrences-held, place
 use Rattle.mmt_delivery.proofs.Kept.{any-map, as_number-true, below_from_times, clock-low, filter-map, goes, held_facts, kept-held, map-push, survives-latest}
 use Rattle.mmt_delivery.proofs.Known.{is_new, known, learned, occurrences-known, occurrences-learned}
 use Rattle.mmt_delivery.proofs.Loads.{AllBelow, sum_by-occurrences, upto, upto-le}
-use Rattle.mmt_delivery.proofs.Premises.{Begins, IsNaming, IsNear, IsRightCopy, IsSound, names_made_known}
+use Rattle.mmt_delivery.proofs.Premises.{Begins, IsNaming, IsNear, IsRightCopy, IsSound, count_below, is_named_from, last_at, names_made_known}
 use Rattle.mmt_delivery.proofs.Tests.{all-at, any-mono, any-some, each-at, member-occurrences}
 use Rattle.mmt_model.proofs.Counting.{occurrences-push}
 use Rattle.mmt_model.proofs.Inserting.{occurrences-insert}
-use Rattle.mmt_model.specs.Broadcast.{CopyPlaces, NamedCast, count_below, due_at, entry_of, is_named_from, last_at}
+use Rattle.mmt_model.specs.Broadcast.{CopyPlaces, NamedCast, due_at, entry_of}
 use Rattle.mmt_model.specs.Counts.{as_number, member, occurrences}
 use Rattle.mmt_model.specs.Entries.{Entry, entries, forget, is_of_same_mpu, last_due, learn, learn_one, names_if_stored}
 use Rattle.mmt_model.specs.Expected.{is_complete, is_named}
@@ -24,7 +24,6 @@ use Rattle.mmt_model.specs.Packets.{Heard}
 use Rattle.mmt_model.specs.Sorted.{insert_by}
 use Rattle.mmt_model.specs.Survival.{AreOf, SentPackets, heard_of, latest, sent_at, survives}
 use Rattle.mmt_model.specs.declared.programmes.Params.{Params}
-use Rattle.mmt_model.specs.declared.keys.Part.TheVariants as parts
 
 pub length-map' : {X Y : Type 0} (f : X → Y) (xs : List X) → length (map f xs) ≡ length xs
 length-map' f [] = refl

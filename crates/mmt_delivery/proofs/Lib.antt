@@ -1,4 +1,8 @@
 pub mod Premises
+pub mod Cutting
+pub mod Laid
+pub mod Admitted
+pub mod Statements
 mod Held
 pub mod Loads
 pub mod Kept
@@ -15,3 +19,7 @@ pub mod Admitting
 pub mod Delivering
 pub mod Laying
 pub mod LayingTables
+pub mod Carried
+pub mod Faultless
+pub mod Theorem
+pub mod Working

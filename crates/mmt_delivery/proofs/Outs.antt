@@ -1,8 +1,7 @@
 -- The units that are handed out over whole ticks, as places of the show's units.
-use Rattle.std.proofs.Common.{◌≡◌, ℕ, ◌+◌, ◌-◌, ◌*◌, ◌/◌, ◌^◌, ◌<◌, ◌≤◌, zero, suc, Bool, true, false, not, ◌&&◌, ◌||◌, ◌==◌, ◌⊎◌, nat_lt, nat_le, cond, if◌then◌else◌, max, List, [], ◌∷◌, ◌++◌, map, length, get_or, arith, refl, ap, ap₂, sym, ◌∙◌, ⊎_elim, filter, subst, true≢false, length-append}
-use Rattle.std.specs.List.{list_any, list_all, flat_map}
-use Rattle.std.proofs.lemmas.Bool.Decides.{nat_tests}
-use Rattle.std.proofs.lemmas.Bool.{cases_eq, eq-eqb, ne_eqb, and_parts, and_from, or_cases, or_right, or_left, cases_Bool, ltb-true, leb-true, lt-ltb, le-ltb, le-leb, lt-leb, cases_lt}
+use Rattle.std.proofs.Common.{◌≡◌, ℕ, ◌+◌, ◌<◌, ◌≤◌, Bool, true, false, ◌&&◌, ◌==◌, ◌⊎◌, nat_lt, nat_le, cond, max, List, [], ◌∷◌, ◌++◌, map, length, arith, refl, ap, ap₂, sym, ◌∙◌, ⊎_elim, filter, length-append}
+use Rattle.std.specs.List.{list_all}
+use Rattle.std.proofs.lemmas.Bool.{and_parts, or_left, cases_Bool, ltb-true, leb-true, lt-ltb, le-ltb, le-leb, lt-leb, cases_lt}
 use Rattle.mmt_delivery.proofs.Expecting.{complete-none, due-mono, due_of_unit-le, expected-early, expected-over, is_ready}
 use Rattle.mmt_delivery.proofs.Held.{begins-older, held, occurrences-held}
 use Rattle.mmt_delivery.proofs.Kept.{as_number-true, held_facts, times_of_filter}
@@ -19,7 +18,7 @@ use Rattle.mmt_model.specs.Handing.{Presentation, is_presented_before, key_numbe
 use Rattle.mmt_model.specs.Packets.{Heard}
 use Rattle.mmt_model.specs.Sorted.{sort_by}
 use Rattle.mmt_model.specs.Survival.{AreOf, SentPackets, heard_of, latest, sent_at, survives}
-use Rattle.mmt_model.specs.Units.{MediaUnit, joined}
+use Rattle.mmt_model.specs.Units.{MediaUnit}
 use Rattle.mmt_model.specs.declared.keys.UnitKey.{UnitKey}
 use Rattle.mmt_model.specs.declared.programmes.Params.{Params}
 use Rattle.mmt_model.specs.declared.keys.UnitKey.TheVariants as keys

@@ -1,8 +1,8 @@
 -- What the proofs of the theorem rest on, by part.
-use Rattle.std.specs.Prelude.{ℕ, zero, suc, ◌+◌, ◌^◌, ◌≡◌, ◌<◌, ◌≤◌, Bool, true, false, not, ◌&&◌, ◌||◌, nat_lt, nat_le, ◌==◌, List, [], ◌∷◌, ◌++◌, max, length, get_or, if◌then◌else◌}
-use Rattle.std.specs.List.{filter, list_any, list_all, flat_map}
+use Rattle.std.specs.Prelude.{ℕ, zero, suc, ◌+◌, ◌^◌, ◌≡◌, ◌<◌, ◌≤◌, Bool, ◌&&◌, nat_lt, nat_le, List, [], ◌∷◌, max, length, get_or, if◌then◌else◌}
+use Rattle.std.specs.List.{list_any, list_all, flat_map}
 use Rattle.std.specs.List.{AllByRecursion}
-use Rattle.mmt_model.specs.Broadcast.{Broadcast, CopyPlaces, NamedCast, count_below, due_at, due_of_unit, entry_of, is_named_from, last_at, presentation_of, unit_of}
+use Rattle.mmt_model.specs.Broadcast.{Broadcast, CopyPlaces, NamedCast, due_at, due_of_unit, entry_of, presentation_of, unit_of}
 use Rattle.mmt_model.specs.Counts.{member}
 use Rattle.mmt_model.specs.Delivery.{reach}
 use Rattle.mmt_model.specs.Handing.{order_numbers}
@@ -28,6 +28,20 @@ pub record IsSound (cast : SentPackets) (r : Params) : Type 0 where
   pub short_window : r.window ≤ 2 ^ 24
   pub apart : (m n : ℕ) → m < length cast.sent → n < length cast.sent → (get_or cast.sent m no_packet).packet_id ≡ (get_or cast.sent n no_packet).packet_id → (get_or cast.sent m no_packet).number ≡ (get_or cast.sent n no_packet).number → m ≡ n
   pub fits : (n : ℕ) → n < length cast.sent → load cast.sent r.window (sent_at cast.sent n) ≤ r.bound
+
+-- the greatest timestamp of the packets at these places
+unfoldable pub last_at : NamedCast → List ℕ → ℕ
+last_at cast [] = 0
+last_at cast (n ∷ ns) = max (sent_at cast.packets.sent n) (last_at cast ns)
+
+-- how many numbers below n pass
+unfoldable pub count_below : (ℕ → Bool) → ℕ → ℕ
+count_below p zero = 0
+count_below p (suc n) = count_below p n + (if p n then 1 else 0)
+
+-- some copy that ends at this tick or before it names the MPU
+unfoldable pub is_named_from : NamedCast → ℕ → ℕ → Bool
+is_named_from cast tick m = list_any (λ c. member m c.names && nat_le (last_at cast c.members) tick) cast.copies
 
 -- a right copy of an admitted cast
 pub record IsRightCopy (cast : NamedCast) (r : Params) (c : CopyPlaces) : Type 0 where

@@ -1,15 +1,14 @@
 -- What a stored packet names is what its table copy names, where all of the copy is kept.
-use Rattle.std.proofs.Common.{◌≡◌, ℕ, ◌+◌, ◌-◌, ◌*◌, ◌%◌, ◌^◌, ◌<◌, ◌≤◌, ◌⊎◌, zero, suc, Bool, true, false, not, ◌&&◌, ◌||◌, ◌==◌, nat_lt, nat_le, cond, if◌then◌else◌, max, List, [], ◌∷◌, ◌++◌, map, length, get_or, Option, Some, None, arith, refl, ap, ap₂, sym, ◌∙◌, ⊎_elim, filter, subst, true≢false, append-nil, inl, inr}
+use Rattle.std.proofs.Common.{◌≡◌, ℕ, ◌+◌, ◌-◌, ◌%◌, ◌^◌, ◌<◌, ◌≤◌, ◌⊎◌, zero, suc, Bool, true, false, ◌&&◌, ◌||◌, ◌==◌, nat_lt, nat_le, cond, List, [], ◌∷◌, ◌++◌, map, length, get_or, Some, None, arith, refl, ap, ap₂, sym, ◌∙◌, ⊎_elim, filter, true≢false, append-nil, inl, inr}
 use Rattle.std.specs.List.{list_any, list_all, flat_map}
-use Rattle.std.proofs.lemmas.Bool.Decides.{nat_tests}
-use Rattle.std.proofs.lemmas.Bool.{cases_eq, eq-eqb, eqb-true, eqb-false, ne_eqb, and_parts, and_from, or_cases, or_right, or_left, cases_Bool, ltb-true, leb-true, lt-ltb, le-ltb, le-leb, lt-leb, cases_lt, false_from_ne_true}
+use Rattle.std.proofs.lemmas.Bool.{cases_eq, eq-eqb, eqb-true, eqb-false, ne_eqb, and_parts, and_from, or_cases, or_right, or_left, ltb-true, lt-ltb, le-leb, false_from_ne_true}
 use Rattle.std.proofs.lemmas.List.Elements.{filter-append}
 use Rattle.mmt_base.specs.Ticks.{ahead_of, low}
+use Rattle.mmt_delivery.proofs.Cutting.{AreTables, IsAt, IsChain, IsTable, IsTablePart, NamesOf, NamesOfWhole, payload_of}
 use Rattle.mmt_delivery.proofs.Finding.{IsApart, payload-heard, rest_of_run-whole}
 use Rattle.mmt_delivery.proofs.Learning.{IsTelling}
 use Rattle.mmt_delivery.proofs.Premises.{names_made_known}
 use Rattle.mmt_delivery.proofs.Tests.{each-at, member-occurrences}
-use Rattle.mmt_delivery.specs.Cutting.{AreTables, IsAt, IsChain, IsTable, IsTablePart, NamesOf, NamesOfWhole, payload_of}
 use Rattle.mmt_model.proofs.Counting.{any-occurrences}
 use Rattle.mmt_model.specs.Broadcast.{CopyPlaces, NamedCast, entry_of}
 use Rattle.mmt_model.specs.Counts.{as_number, member, occurrences}

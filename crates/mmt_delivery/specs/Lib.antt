@@ -1,4 +1,2 @@
-pub mod Cutting
-pub mod Admission
 pub mod Laws
-pub mod Layout
+pub mod WorkedPlan

@@ -1,24 +1,52 @@
-//! The delivery theorem.
+//! The delivery theorem: what a receiver hands out of a near delivery of an admitted cast are exactly
+//! the expected units, each once, in their order. Its laws are the contracts of functions that do
+//! nothing.
 #![tactic(auto)]
 
-ghost use Rattle.mmt_delivery.specs.Laws.{Delivers, OutcomesAre, HoldsAlways, ShortIsNear};
+ghost use Rattle.mmt_delivery.specs.Laws.{Delivers, OutcomesAre, HoldsAlways, PeakFits, ShortIsNear};
+ghost use Rattle.mmt_delivery.specs.WorkedPlan.{IsRightPlan, IsDelivered};
 
-/// What comes out of any near delivery of an admitted cast are the expected units, each once, in their order.
+/// Of a cast without a fault, with the contents of a right programme, and of any near delivery of it:
+/// what a receiver with the cast's window and delay and with at least its bound hands out, up to the
+/// end, are the expected units with their times, each once, in the order of handing out.
 pub fn delivery_theorem()
     ensures { Delivers }
 {}
 
-/// What a receiver holds at each moment of a near delivery.
+/// At each moment of such a delivery, each once: the kept packets are exactly those that survived and
+/// are in the window; their units are exactly the cast's units all of whose packets are kept; the live
+/// entries are exactly those of the MPUs that a whole table copy named and whose last due tick is
+/// after the clock; and the kept bytes are no more than the cast's load at the clock, and so than its
+/// bound.
 pub fn laws_at_each_moment()
     ensures { HoldsAlways }
 {}
 
-/// Only late packets and repeats are not stored, so that the buffer is never full.
+/// Of such a delivery only late packets and repeats are not stored, so that the buffer is never full.
 pub fn only_late_and_repeats()
     ensures { OutcomesAre }
 {}
 
-/// Where all timestamps lie less than the reach above the first, every delivery is near.
+/// The peak of such a delivery, the greatest sum of kept bytes, is no more than the cast's bound.
+pub fn peak_is_within_the_bound()
+    ensures { PeakFits }
+{}
+
+/// Where all timestamps of a cast lie less than 2,113,929,216 ticks (8 hours, 57 minutes and 36
+/// seconds) above the first, every delivery of it is near.
 pub fn close_timestamps_are_near()
     ensures { ShortIsNear }
+{}
+
+/// The premises can be met: the cast of a small plan has no fault and goes with its contents,
+/// whatever the bytes of its file.
+pub fn worked_plan_is_right()
+    ensures { IsRightPlan }
+{}
+
+/// Deliveries of the small plan, in order, with a lost part, repeated, reordered, with a late part,
+/// with the first table lost and without a table: what the definitions of the receiver give is what
+/// those of the expected units give.
+pub fn worked_deliveries_agree()
+    ensures { IsDelivered }
 {}

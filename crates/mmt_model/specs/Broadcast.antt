@@ -1,11 +1,9 @@
 -- A cast with what is read of it: the packets with their payloads, the entries by which its MPUs are named, and its table copies and units with the places of their packets.
-use Rattle.std.specs.Prelude.{ℕ, zero, suc, ◌+◌, Bool, ◌&&◌, nat_le, List, [], ◌∷◌, max, get_or, if◌then◌else◌}
-use Rattle.std.specs.List.{list_any}
+use Rattle.std.specs.Prelude.{ℕ, List, [], get_or}
 use Rattle.mmt_base.specs.Ticks.{due_of}
-use Rattle.mmt_model.specs.Counts.{member}
 use Rattle.mmt_model.specs.Entries.{Entry, last_due}
 use Rattle.mmt_model.specs.Handing.{Presentation, time_of}
-use Rattle.mmt_model.specs.Survival.{SentPackets, sent_at}
+use Rattle.mmt_model.specs.Survival.{SentPackets}
 use Rattle.mmt_model.specs.Units.{MediaUnit}
 use Rattle.mmt_model.specs.declared.keys.UnitKey.TheVariants as keys
 
@@ -60,17 +58,3 @@ presentation_of broadcast u =
 -- its due tick
 unfoldable pub due_of_unit : Broadcast → ℕ → ℕ
 due_of_unit broadcast u = due_of (presentation_of broadcast u).time
-
--- the greatest timestamp of the packets at these places
-unfoldable pub last_at : NamedCast → List ℕ → ℕ
-last_at cast [] = 0
-last_at cast (n ∷ ns) = max (sent_at cast.packets.sent n) (last_at cast ns)
-
--- how many numbers below n pass
-unfoldable pub count_below : (ℕ → Bool) → ℕ → ℕ
-count_below p zero = 0
-count_below p (suc n) = count_below p n + (if p n then 1 else 0)
-
--- some copy that ends at this tick or before it names the MPU
-unfoldable pub is_named_from : NamedCast → ℕ → ℕ → Bool
-is_named_from cast tick m = list_any (λ c. member m c.names && nat_le (last_at cast c.members) tick) cast.copies

@@ -1,5 +1,5 @@
 -- The clock, lateness and the kept packets. A history is a list of heard packets, the newest first.
-use Rattle.std.specs.Prelude.{ℕ, ◌+◌, Bool, not, ◌&&◌, ◌||◌, nat_lt, ◌==◌, List, [], ◌∷◌, if◌then◌else◌}
+use Rattle.std.specs.Prelude.{ℕ, ◌+◌, max, Bool, not, ◌&&◌, ◌||◌, nat_lt, ◌==◌, List, [], ◌∷◌, if◌then◌else◌}
 use Rattle.std.specs.List.{filter, sum_by, list_any}
 use Rattle.mmt_base.specs.Ticks.{advance, is_after, plus}
 use Rattle.mmt_model.specs.Packets.{Heard}
@@ -63,3 +63,12 @@ kept r start (h ∷ older) =
     let now = clock start (h ∷ older) in
     let rest = still_kept r now (kept r start older) in
     kept_after (outcome r now rest h) rest h
+
+-- the payload bytes of packets
+abbrev pub bytes_of : List Heard → ℕ
+bytes_of packets = sum_by (λ p. p.length) packets
+
+-- the greatest sum of kept payload bytes so far, and 0 before the first packet (this project's rule)
+unfoldable pub peak : Params → ℕ → List Heard → ℕ
+peak r start [] = 0
+peak r start (h ∷ older) = max (peak r start older) (bytes_of (kept r start (h ∷ older)))

@@ -9,3 +9,5 @@ pub mod Survival
 pub mod Delivery
 pub mod Broadcast
 pub mod Expected
+pub mod Carrying
+pub mod Admission

@@ -1,5 +1,5 @@
 use Rattle.mmt_delivery.proofs.delivery_theorem.Goals as goal
-use Rattle.mmt_delivery.proofs.Delivering.{delivers}
+use Rattle.mmt_delivery.proofs.Theorem.{theorem}
 
 pub returns : goal.returns
-returns c = delivers
+returns c = theorem

@@ -1,5 +1,5 @@
 use Rattle.mmt_delivery.proofs.laws_at_each_moment.Goals as goal
-use Rattle.mmt_delivery.proofs.Delivering.{holds}
+use Rattle.mmt_delivery.proofs.Theorem.{at_each_moment}
 
 pub returns : goal.returns
-returns c = holds
+returns c = at_each_moment

@@ -1,5 +1,5 @@
 use Rattle.mmt_delivery.proofs.only_late_and_repeats.Goals as goal
-use Rattle.mmt_delivery.proofs.Delivering.{outcomes}
+use Rattle.mmt_delivery.proofs.Theorem.{outcomes_are}
 
 pub returns : goal.returns
-returns c = outcomes
+returns c = outcomes_are

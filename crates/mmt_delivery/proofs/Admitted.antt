@@ -1,9 +1,10 @@
 -- Which casts are admitted.
-use Rattle.std.specs.Prelude.{ℕ, zero, suc, ◌+◌, ◌^◌, ◌≡◌, ◌<◌, ◌≤◌, Bool, true, ◌&&◌, nat_lt, nat_le, ◌==◌, List, [], ◌∷◌, length, get_or, take, min}
-use Rattle.std.specs.List.{count_by, list_any}
+use Rattle.std.specs.Prelude.{ℕ, ◌+◌, ◌^◌, ◌≡◌, ◌<◌, ◌≤◌, true, ◌&&◌, nat_lt, ◌==◌, List, [], ◌∷◌, length, get_or, take, min}
+use Rattle.std.specs.List.{count_by}
 use Rattle.std.specs.List.{AllByRecursion}
-use Rattle.mmt_delivery.specs.Cutting.{AreTables, IsCut}
-use Rattle.mmt_model.specs.Broadcast.{Broadcast, CopyPlaces, NamedCast, count_below, due_at, due_of_unit, entry_of, is_named_from, last_at, unit_of}
+use Rattle.mmt_delivery.proofs.Cutting.{AreTables, IsCut}
+use Rattle.mmt_delivery.proofs.Premises.{count_below, is_named_from, last_at}
+use Rattle.mmt_model.specs.Broadcast.{Broadcast, CopyPlaces, NamedCast, due_at, due_of_unit, entry_of, unit_of}
 use Rattle.mmt_model.specs.Entries.{Entry}
 use Rattle.mmt_model.specs.Handing.{key_numbers, precedes}
 use Rattle.mmt_model.specs.Survival.{load, no_packet, sent_at}

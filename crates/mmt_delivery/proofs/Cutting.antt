@@ -1,5 +1,5 @@
 -- How the units and the table copies of a broadcast are cut into its packets.
-use Rattle.std.specs.Prelude.{ℕ, zero, suc, ◌+◌, ◌^◌, ◌≡◌, ◌<◌, ◌≤◌, ◌⊎◌, Bool, true, false, ◌&&◌, nat_lt, ◌==◌, List, [], ◌∷◌, ◌++◌, map, length, get_or}
+use Rattle.std.specs.Prelude.{ℕ, suc, ◌+◌, ◌^◌, ◌≡◌, ◌<◌, ◌≤◌, ◌⊎◌, Bool, true, ◌&&◌, nat_lt, ◌==◌, List, [], ◌∷◌, map, length, get_or}
 use Rattle.std.specs.List.{filter, flat_map}
 use Rattle.std.specs.List.{AllByRecursion}
 use Rattle.mmt_model.specs.Broadcast.{Broadcast, CopyPlaces, NamedCast, entry_of, unit_of}
