@@ -1,0 +1,21 @@
+-- What each command promises.
+use Rattle.std.specs.Prelude.{◌≡◌, ℕ}
+use Rattle.mmt_io.specs.Port.{Rose}
+use Rattle.mmt_cli.specs.Listing.{Lists}
+use Rattle.mmt_cli.specs.Moments.{Moment, Faults}
+use Rattle.mmt_cli.specs.declared.status.Status.{Status}
+use Rattle.mmt_cli.specs.declared.status.Status.TheVariants as status
+use Rattle.mmt_cli.specs.declared.words.Command.{Command}
+use Rattle.mmt_cli.specs.declared.words.Command.TheVariants as command
+
+-- A run of a command that reads the port answers a fault only where the port's count rose.
+abbrev pub HasPortCauses : Status → Faults → Faults → Type 0
+HasPortCauses outcome old new = (outcome ≡ status.ReadFault → Rose old.reads new.reads) × (outcome ≡ status.WriteFault → Rose old.writes new.writes)
+
+-- where the faults of a command come from, whether or not the port tells its bytes
+abbrev pub HasCauses : Command → Status → Faults → Faults → Type 0
+HasCauses command.List outcome old new = HasPortCauses outcome old new
+
+-- what a run of the command does, from the moment before it to the one after it
+abbrev pub Promises : Command → ℕ → Status → Moment → Moment → Type 0
+Promises command.List limit outcome old new = Lists limit outcome old new

@@ -1,0 +1,36 @@
+//! What the program answers by itself.
+
+/// The page of help.
+pub const HELP: &str = "\
+mmt: lists a capture of MMT over TLV
+
+usage: mmt COMMAND, mmt --help, mmt --version
+
+commands:
+  list      reads a stream of TLV packets from standard input, and writes one line for each packet:
+            PLACE KIND LENGTH, where PLACE counts bytes from 0, KIND is ip4, ip6, ctx, signal, null or
+            other- with two hexadecimal digits, and LENGTH is that of the packet's body
+            (no options; at most 1099511627776 bytes are read)
+
+statuses, and what is printed on standard error after 'mmt: ':
+  0         done
+  1         usage: word I           the words are no command from word I on, counted from 0
+  2         read fault              a read failed
+  3         write fault             a write failed
+  4         broken: cut at P        the input ends within the packet at P
+            broken: sync at P       the byte at P should be 7F and is not
+  7         out of memory
+  8         too long                the input has more bytes than can be read
+";
+
+/// The name and the version.
+pub const VERSION: &str = "mmt 0.1.0\n";
+
+/// The text that is asked for where these are the only words.
+pub fn answer_to(words: &[String]) -> Option<&'static str> {
+    match words {
+        [only] if only.as_str() == "--help" => Some(HELP),
+        [only] if only.as_str() == "--version" => Some(VERSION),
+        _ => None,
+    }
+}

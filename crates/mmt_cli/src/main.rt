@@ -1,0 +1,61 @@
+//! The program `mmt`.
+#![tactic(auto)]
+
+mod help;
+mod list;
+mod lister;
+mod run;
+mod status;
+#[cfg(test)]
+mod tests;
+mod words;
+
+use mmt_io::{MemoryShelf, Port, RealPort};
+use run::run;
+use status::Status;
+use std::process::ExitCode;
+use std::{env, io};
+
+// The words after the program's name, or the status where the system doesn't give them as texts.
+fn words_of(rt: &HostRuntime) -> Result<Vec<String>, Status> {
+    let all = match env::args(rt) {
+        Ok(all) => all,
+        Err(e) if e.kind() == io::ErrorKind::OutOfMemory => return Err(Status::OutOfMemory),
+        Err(_) => return Err(Status::Usage { index: 0 }),
+    };
+    let mut words = Vec::new(rt.alloc());
+    for word in all.skip(1) {
+        if words.push(word).is_err() {
+            return Err(Status::OutOfMemory);
+        }
+    }
+    Ok(words)
+}
+
+// Ends with the status's number, and prints its text where the command didn't do its work.
+fn ended(rt: &HostRuntime, status: Status) -> ExitCode {
+    if status != Status::Done {
+        let _ = eprintln!(rt; "mmt: {status}");
+    }
+    ExitCode::from(status.number())
+}
+
+// Does what the words ask, over the streams of the system.
+fn answered(rt: &HostRuntime, words: &[String]) -> Status {
+    let mut port = RealPort::new(rt.stdin(), rt.stdout(), rt.stderr());
+    if let Some(text) = help::answer_to(words) {
+        return match port.write(text.as_bytes()) {
+            Ok(()) => Status::Done,
+            Err(_) => Status::WriteFault,
+        };
+    }
+    let mut shelf = MemoryShelf::new(rt.alloc(), Vec::new(rt.alloc()));
+    run(rt.alloc(), words, &mut port, &mut shelf)
+}
+
+fn main(rt: HostRuntime) -> ExitCode {
+    match words_of(&rt) {
+        Ok(words) => ended(&rt, answered(&rt, &words)),
+        Err(status) => ended(&rt, status),
+    }
+}

@@ -1,0 +1,77 @@
+//! The top call: from the words of the command line to the status.
+ghost use Rattle.std.specs.Prelude.{◌≡◌, ℕ, ◌^◌, ◌≤◌, IsTrue};
+ghost use Rattle.mmt_cli.specs.Words.{texts, IsWrongAt};
+ghost use Rattle.mmt_cli.specs.Commands.{Asks, IsCommand};
+ghost use Rattle.mmt_cli.specs.Moments.{moment, faults};
+ghost use Rattle.mmt_cli.specs.Promise.{HasCauses, Promises};
+ghost use Rattle.mmt_cli.specs.declared.words.Command.{Command};
+
+use crate::list::ListCommand;
+use crate::status::Status;
+use crate::words::{Command, command_of};
+use mmt_io::{Port, Shelf};
+use mmt_stream::stream;
+use std::alloc::Global;
+
+/// Does what the words ask, over a port and a shelf, and reads at most `limit` bytes and one more.
+pub fn run_within<P: Port, H: Shelf>(
+    alloc: Global,
+    words: &[String],
+    port: &mut P,
+    shelf: &mut H,
+    limit: u64,
+) -> Status
+    requires { limit ≤ 2 ^ 40 }
+    // Exactly where the words are no command the status says so, with the first wrong word, and nothing is touched.
+    ensures usage { (index : ℕ) → result ≡ Status.Usage index →
+        IsWrongAt IsCommand (texts words.now) index }
+    ensures only_usage { (index : ℕ) → IsWrongAt IsCommand (texts words.now) index →
+        result ≡ Status.Usage index }
+    ensures untouched { (index : ℕ) → result ≡ Status.Usage index → (port.new ≡ port.old) ×
+        (shelf.new ≡ shelf.old) }
+    // A fault is answered only where its count rose.
+    ensures causes { (command : Command) → Asks command (texts words.now) → HasCauses command result
+        (faults (P.read_faults port.old) (P.write_faults port.old) (H.faults shelf.old))
+        (faults (P.read_faults port.new) (P.write_faults port.new) (H.faults shelf.new)) }
+    // Each command does what it promises.
+    ensures promise { IsTrue (P.tells port.old) → (command : Command) →
+        Asks command (texts words.now) → Promises command limit result
+        (moment (P.history port.old) (P.left port.old) (P.read_faults port.old)
+        (P.write_faults port.old))
+        (moment (P.history port.new) (P.left port.new) (P.read_faults port.new)
+        (P.write_faults port.new)) }
+{
+    match command_of(words) {
+        Ok(Command::List) => Status::from(stream(alloc, port, ListCommand::new(alloc), limit)),
+        Err(index) => Status::Usage { index },
+    }
+}
+
+/// Does what the words ask, over a port and a shelf, and reads at most 2^40 bytes and one more.
+pub fn run<P: Port, H: Shelf>(
+    alloc: Global,
+    words: &[String],
+    port: &mut P,
+    shelf: &mut H,
+) -> Status
+    // Exactly where the words are no command the status says so, with the first wrong word, and nothing is touched.
+    ensures usage { (index : ℕ) → result ≡ Status.Usage index →
+        IsWrongAt IsCommand (texts words.now) index }
+    ensures only_usage { (index : ℕ) → IsWrongAt IsCommand (texts words.now) index →
+        result ≡ Status.Usage index }
+    ensures untouched { (index : ℕ) → result ≡ Status.Usage index → (port.new ≡ port.old) ×
+        (shelf.new ≡ shelf.old) }
+    // A fault is answered only where its count rose.
+    ensures causes { (command : Command) → Asks command (texts words.now) → HasCauses command result
+        (faults (P.read_faults port.old) (P.write_faults port.old) (H.faults shelf.old))
+        (faults (P.read_faults port.new) (P.write_faults port.new) (H.faults shelf.new)) }
+    // Each command does what it promises.
+    ensures promise { IsTrue (P.tells port.old) → (command : Command) →
+        Asks command (texts words.now) → Promises command (2 ^ 40) result
+        (moment (P.history port.old) (P.left port.old) (P.read_faults port.old)
+        (P.write_faults port.old))
+        (moment (P.history port.new) (P.left port.new) (P.read_faults port.new)
+        (P.write_faults port.new)) }
+{
+    run_within(alloc, words, port, shelf, 1 << 40)
+}

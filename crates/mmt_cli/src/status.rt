@@ -1,0 +1,81 @@
+//! How a run ends.
+ghost use Rattle.std.specs.Prelude.{◌≡◌};
+ghost use Rattle.mmt_cli.specs.Statuses.{status_of};
+
+use mmt_stream::{BrokenKind, StreamEnd};
+use std::fmt;
+
+/// How a run ends.
+#[derive(Clone, Copy, Debug, PartialEq, Eq)]
+pub enum Status {
+    /// The command did its work, and read its input to the end.
+    Done,
+    /// The words are no command from this one on, which is counted from 0.
+    Usage { index: u32 },
+    /// A read failed.
+    ReadFault,
+    /// A write or a note failed.
+    WriteFault,
+    /// The input is whole packets up to this place, and no packet stands there.
+    Broken { kind: BrokenKind, place: u64 },
+    /// There was no memory.
+    OutOfMemory,
+    /// The input has more bytes than the limit.
+    TooLong,
+}
+
+impl From<StreamEnd> for Status {
+    ghost from_gives = { λ end status. status ≡ status_of end };
+
+    fn from(end: StreamEnd) -> Status {
+        match end {
+            StreamEnd::Done => Status::Done,
+            StreamEnd::ReadFault => Status::ReadFault,
+            StreamEnd::WriteFault => Status::WriteFault,
+            StreamEnd::Broken { kind, place } => Status::Broken { kind, place },
+            StreamEnd::OutOfMemory => Status::OutOfMemory,
+            StreamEnd::TooLong => Status::TooLong,
+        }
+    }
+}
+
+impl Status {
+    ghost use Rattle.mmt_cli.specs.Statuses.{number_of};
+
+    /// The number with which the program ends.
+    pub fn number(&self) -> u8
+        ensures { result ≡ number_of self.now }
+    {
+        match self {
+            Status::Done => 0,
+            Status::Usage { .. } => 1,
+            Status::ReadFault => 2,
+            Status::WriteFault => 3,
+            Status::Broken { .. } => 4,
+            Status::OutOfMemory => 7,
+            Status::TooLong => 8,
+        }
+    }
+}
+
+/// The text that the program prints.
+impl fmt::Display for Status {
+    fn fmt<W: fmt::Write>(&self, f: &mut fmt::Formatter<W>) -> fmt::Result {
+        match self {
+            Status::Done => write!(f, "done"),
+            Status::Usage { index } => write!(f, "usage: word {index}"),
+            Status::ReadFault => write!(f, "read fault"),
+            Status::WriteFault => write!(f, "write fault"),
+            Status::Broken {
+                kind: BrokenKind::Cut,
+                place,
+            } => write!(f, "broken: cut at {place}"),
+            Status::Broken {
+                kind: BrokenKind::Sync,
+                place,
+            } => write!(f, "broken: sync at {place}"),
+            Status::OutOfMemory => write!(f, "out of memory"),
+            Status::TooLong => write!(f, "too long"),
+        }
+    }
+}

@@ -1,0 +1,4 @@
+pub mod Consuming
+pub mod Driving
+pub mod Output
+pub mod Streaming

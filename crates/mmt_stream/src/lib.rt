@@ -1,0 +1,10 @@
+//! The reading of a stream of TLV packets, written once for all commands that read one.
+#![tactic(auto)]
+
+pub mod consumer;
+pub mod drive;
+pub mod end;
+
+pub use consumer::Consumer;
+pub use drive::stream;
+pub use end::{BrokenKind, Halt, StreamEnd};
