@@ -103,7 +103,7 @@ naming broadcast r k names_in admitted formed w d =
           admitted.copies formed.copy_some formed.copy_of_cast formed.copy_names;
     }
 
--- units that are told apart
+-- the units of a cast that is admitted
 keys-append : (k l : UnitKey) (xs ys : List ℕ) → key_numbers k ++ xs ≡ key_numbers l ++ ys → (key_numbers k ≡ key_numbers l)
 unfolding key_numbers
 keys-append (keys.Item a) (keys.Item b) xs ys e = cc

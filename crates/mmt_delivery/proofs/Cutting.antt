@@ -10,7 +10,7 @@ use Rattle.mmt_model.specs.Survival.{SentPackets, heard_of, no_packet}
 use Rattle.mmt_model.specs.Units.{Link, joined, media_link, next_number, signal_link, unit_from, whole_units}
 use Rattle.mmt_model.specs.declared.keys.Part.TheVariants as parts
 
--- the packet at place n has this packet_id and number
+-- the packet at place n has this packet id and number
 pub record IsAt (packets : SentPackets) (n packet_id number : ℕ) : Type 0 where
   pub of : n < length packets.sent
   pub has_id : (get_or packets.sent n no_packet).packet_id ≡ packet_id

@@ -175,7 +175,7 @@ named-none cast r m naming =
     none [] l e = omega arith
     none (k ∷ ks) l e = true≢false (sym e)
 
--- what is told is not due when it is told
+-- what a table names is not due when the table is read
 pub record IsTold (cast : NamedCast) (r : Params) (n m : ℕ) : Type 0 where
   pub not_late : sent_at cast.packets.sent n + r.delay < due_at cast m
   pub soon : due_at cast m ≤ sent_at cast.packets.sent n + 2 ^ 30

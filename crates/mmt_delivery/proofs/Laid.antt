@@ -39,7 +39,7 @@ payload_by l (Holding.Parameters bytes) = Payload.Signalling parts.Whole (bytes 
 payload_by l (Holding.Table c) = Payload.Signalling parts.Whole (l.copy_part c 0 ∷ [])
 payload_by l (Holding.TablePart c k) = Payload.Signalling (role k (l.copy_count c)) (l.copy_part c k ∷ [])
 
--- what a packet carries stands under its packet_id and number
+-- what a packet carries stands under its packet id and number
 abbrev pub IsPlaced : Broadcast → Layout → ℕ → ℕ → Holding → Type 0
 IsPlaced broadcast l packet_id number (Holding.Whole u) = (u < length broadcast.units) × (packet_id ≡ l.packet_id u) × (number ≡ l.first u) × (l.count u ≡ 1)
 IsPlaced broadcast l packet_id number (Holding.Fragment u k) = (u < length broadcast.units) × (packet_id ≡ l.packet_id u) × (number ≡ l.first u + k) × (k < l.count u) × (2 ≤ l.count u)

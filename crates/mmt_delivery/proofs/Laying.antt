@@ -16,7 +16,7 @@ use Rattle.mmt_model.specs.Survival.{heard_of, no_packet}
 use Rattle.mmt_model.specs.Units.{Link, joined, media_link, next_number, same_flag, unit_from, whole_units}
 use Rattle.mmt_model.specs.declared.keys.Part.TheVariants as parts
 
--- what a packet that has a part of a unit says of its packet_id and number
+-- what a packet that has a part of a unit says of its packet id and number
 pub record IsPartOf (broadcast : Broadcast) (l : Layout) (packet_id number u k : ℕ) : Type 0 where
   pub below : u < length broadcast.units
   pub same_id : packet_id ≡ l.packet_id u

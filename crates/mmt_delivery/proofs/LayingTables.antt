@@ -283,7 +283,7 @@ by_part broadcast names_in l n c (suc k) apart laid copies ln is (suc (suc d)) e
     go true p = p
     go false p = p
 
--- what each packet names_by
+-- what each packet names
 names_by-by : (broadcast : Broadcast) (names_in : List ℕ → List Entry) (l : Layout) (n : ℕ) → IsApart broadcast.cast.packets → IsLaid broadcast l → AreLaidCopies broadcast names_in l → n < length broadcast.cast.packets.sent
     → (c : Holding) → l.holds n ≡ c → NamesOf broadcast.cast names_in (heads broadcast l) (tails broadcast l) n (payload_by l c)
 unfolding payload_by holds_copy_part

@@ -254,7 +254,7 @@ forget-map cast r start n older dw naming o b near =
     turned : (d now : ℕ) → not (nat_le d now) ≡ nat_lt now d
     turned d now = grind (arith, nat_tests)
 
--- what a stored packet names_by is what its copy names, where all of that copy is kept
+-- what a stored packet names is what its copy names, where all of that copy is kept
 pub record IsTelling (names_by : List Heard → Heard → List Entry) (cast : NamedCast) : Type 0 where
   pub told : (ks : List ℕ) (n : ℕ) → ((k : ℕ) → occurrences k ks ≤ 1) → ((k : ℕ) → 0 < occurrences k ks → k < length cast.packets.sent) → member n ks ≡ true
       → names_by (map (heard_of cast.packets) ks) (heard_of cast.packets n) ≡ map (entry_of cast) (names_made_known cast ks n)

@@ -1,4 +1,4 @@
--- The units that are handed out over whole ticks, as places of the show's units.
+-- The units that are handed out over whole ticks, as places of the cast's units.
 use Rattle.std.proofs.Common.{◌≡◌, ℕ, ◌+◌, ◌<◌, ◌≤◌, Bool, true, false, ◌&&◌, ◌==◌, ◌⊎◌, nat_lt, nat_le, cond, max, List, [], ◌∷◌, ◌++◌, map, length, arith, refl, ap, ap₂, sym, ◌∙◌, ⊎_elim, filter, length-append}
 use Rattle.std.specs.List.{list_all}
 use Rattle.std.proofs.lemmas.Bool.{and_parts, or_left, cases_Bool, ltb-true, leb-true, lt-ltb, le-ltb, le-leb, lt-leb, cases_lt}

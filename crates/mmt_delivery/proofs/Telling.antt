@@ -19,7 +19,7 @@ use Rattle.mmt_model.specs.Survival.{SentPackets, heard_of, no_packet}
 use Rattle.mmt_model.specs.Units.{Link, Message, is_part_of, joined, message, message_by, messages_by, names_of, next_number, part_messages, signal_link}
 use Rattle.mmt_model.specs.declared.keys.Part.TheVariants as parts
 
--- the copies that hold the packet say what is told
+-- what a packet makes known is what the copies with that packet name
 told-only : (cast : NamedCast) (ks : List ℕ) (n : ℕ) (cs : List CopyPlaces)
     → flat_map (λ c. cond (member n c.members && list_all (λ k. member k ks) c.members) c.names []) cs
     ≡ flat_map (λ c. cond (list_all (λ k. member k ks) c.members) c.names []) (filter (λ c. member n c.members) cs)
@@ -276,7 +276,7 @@ parts_from cast names_in head tail ks n apart tables below part ln (j ∷ js) su
     both x true e false g = append-nil x
     both x false e b g = refl
 
--- what a part of a table copy names_by
+-- what a part of a table copy names
 part_told : (cast : NamedCast) (names_in : List ℕ → List Entry) (head : ℕ → ℕ) (tail : ℕ → List ℕ) (ks : List ℕ) (n : ℕ) → IsApart cast.packets → AreTables cast names_in head tail → ((k : ℕ) → occurrences k ks ≤ 1) → ((k : ℕ) → 0 < occurrences k ks → k < length cast.packets.sent)
     → (part : IsTablePart cast names_in head tail n) → n < length cast.packets.sent
     → flat_map names_in (part_messages (map (heard_of cast.packets) ks) (heard_of cast.packets n)) ≡ map (entry_of cast) (names_made_known cast ks n)
@@ -301,7 +301,7 @@ part_told cast names_in head tail ks n apart tables once below part ln =
     go b parts bytes names e true false = refl
     go b parts bytes names e false a = refl
 
--- what a whole payload names_by
+-- what a whole payload names
 whole_told : (cast : NamedCast) (names_in : List ℕ → List Entry) (ks : List ℕ) (n : ℕ) (ms : List (List ℕ)) → NamesOfWhole cast names_in n ms → member n ks ≡ true
     → flat_map names_in ms ≡ map (entry_of cast) (names_made_known cast ks n)
 unfolding names_made_known

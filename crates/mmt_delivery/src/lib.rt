@@ -38,15 +38,15 @@ pub fn close_timestamps_are_near()
     ensures { ShortIsNear }
 {}
 
-/// The premises can be met: the cast of a small plan has no fault and goes with its contents,
+/// The premises can be met: three casts of a small plan have no fault and go with their contents,
 /// whatever the bytes of its file.
 pub fn worked_plan_is_right()
     ensures { IsRightPlan }
 {}
 
 /// Deliveries of the small plan, in order, with a lost part, repeated, reordered, with a late part,
-/// with the first table lost and without a table: what the definitions of the receiver give is what
-/// those of the expected units give.
+/// with the first table lost, without a table, and at the limits of what is in time, kept and due:
+/// what the definitions of the receiver give is what those of the expected units give.
 pub fn worked_deliveries_agree()
     ensures { IsDelivered }
 {}

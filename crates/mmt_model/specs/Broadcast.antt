@@ -55,6 +55,6 @@ unfoldable pub presentation_of : Broadcast → ℕ → Presentation
 presentation_of broadcast u =
     record { unit = (unit_of broadcast u).value; time = time_of broadcast.sample_base (entry_of broadcast.cast (unit_of broadcast u).mpu) (unit_of broadcast u).value }
 
--- its due tick
+-- the due tick of the unit at a place
 unfoldable pub due_of_unit : Broadcast → ℕ → ℕ
 due_of_unit broadcast u = due_of (presentation_of broadcast u).time

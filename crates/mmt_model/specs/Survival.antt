@@ -10,15 +10,11 @@ use Rattle.mmt_model.specs.declared.casts.Carries.TheVariants as carries
 abbrev pub no_packet : Sent
 no_packet = record { at = record { 0 = 0 }; packet_id = 0; number = 0; rap = false; length = 0; carries = carries.Parameters 0 }
 
--- the packet at a place
-abbrev pub packet_of : List Sent → ℕ → Sent
-packet_of packets n = get_or packets n no_packet
-
 -- the timestamp of the packet at a place
 unfoldable pub sent_at : List Sent → ℕ → ℕ
 sent_at packets n = (get_or packets n no_packet).at.0
 
--- its payload length
+-- the payload length of the packet at a place
 unfoldable pub length_of : List Sent → ℕ → ℕ
 length_of packets n = (get_or packets n no_packet).length
 

@@ -41,7 +41,7 @@ pub struct Au {
 
 /// A data unit: when its first packet is sent, the bytes of its asset's file that it has, from
 /// `from` on, `length` of them, and its header.
-#[derive(Clone, Copy, Debug)]
+#[derive(Clone, Copy, Debug, PartialEq, Eq)]
 pub struct Unit {
     pub at: LongTick,
     pub from: u64,
