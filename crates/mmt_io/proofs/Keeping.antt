@@ -1,15 +1,14 @@
 -- What a port in memory keeps, from what its fields keep.
 use Rattle.std.proofs.Common.{◌≡◌, ℕ, ◌+◌, ◌-◌, ◌<◌, ◌≤◌, Bool, true, false, not, ◌||◌, nat_le, nat_lt, List, [], ◌∷◌, ◌++◌, length, take, drop, refl, ap, sym, subst, ◌∙◌, arith, ⊎_elim}
-use Rattle.std.proofs.lemmas.Bool.Decides.{nat_tests}
 use Rattle.std.proofs.lemmas.Bool.{cases_lt, le-leb, lt-leb, lt-ltb, le-ltb}
-use Rattle.std.proofs.lemmas.List.{length-drop, length-append, take-append-drop, drop-drop}
+use Rattle.std.proofs.lemmas.List.{length-drop, take-append-drop, drop-drop}
 use Rattle.mmt_io.specs.declared.memory.CallKind.{CallKind}
 use Rattle.mmt_io.specs.declared.memory.CallKind.TheVariants.{Read, Write, Note}
 use Rattle.mmt_io.specs.declared.log.Piece.{Piece}
 use Rattle.mmt_io.specs.History.{Event, bytes_written, bytes_noted}
 use Rattle.mmt_io.specs.History.Event.{In, Out, Note as Noted}
 use Rattle.mmt_io.specs.Pieces.{total, at_read, at_write, at_note, event_of, events_of}
-use Rattle.mmt_io.specs.Kept.{Kept, passes_room, IsKept}
+use Rattle.mmt_io.specs.Kept.{Kept, passes_room}
 use Rattle.mmt_io.proofs.History.{after_read, after_write, after_note}
 
 abbrev pub kept_of : List ℕ → ℕ → List ℕ → List ℕ → List Piece → ℕ → ℕ → Kept

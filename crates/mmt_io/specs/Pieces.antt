@@ -27,6 +27,7 @@ abbrev pub total : (CallKind → ℕ → ℕ) → List Piece → ℕ
 total at [] = 0
 total at (piece ∷ pieces) = at piece.kind piece.length + total at pieces
 
+-- a piece of so many bytes, at the front of the bytes of its kind
 abbrev pub event_of : CallKind → ℕ → List ℕ → List ℕ → List ℕ → Event
 event_of Read n input written noted = In (take n input)
 event_of Write n input written noted = Out (take n written)

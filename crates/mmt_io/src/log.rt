@@ -38,10 +38,11 @@ impl Model for Log {
     ghost Value = { Kept };
 
     ghost view = { λ l. record {
-        history = events_of l.pieces.items l.input.items l.written.items l.noted.items;
-        unread = drop l.taken l.input.items;
-        calls = l.calls;
-        bytes = l.bytes } };
+      history = events_of l.pieces.items l.input.items l.written.items l.noted.items;
+      unread = drop l.taken l.input.items;
+      calls = l.calls;
+      bytes = l.bytes;
+    } };
 
     ghost invariant = { λ l. IsKept l.input.items l.taken l.written.items l.noted.items l.pieces.items l.calls l.bytes
         (vec_capacity l.written) (vec_capacity l.noted) (vec_capacity l.pieces) };

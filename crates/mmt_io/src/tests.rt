@@ -12,6 +12,19 @@ fn port(alloc: Global, calls: u32, bytes: u32, failing: &[FailAt]) -> Result<Mem
     Ok(MemoryPort::new(alloc, input, calls, bytes, failing)?)
 }
 
+// The calls of any port, of which a test knows their answers alone.
+fn read<P: Port>(port: &mut P, buf: &mut [u8]) -> Result<usize, Fault> {
+    port.read(buf)
+}
+
+fn write<P: Port>(port: &mut P, bytes: &[u8]) -> Result<(), Fault> {
+    port.write(bytes)
+}
+
+fn note<P: Port>(port: &mut P, bytes: &[u8]) -> Result<(), Fault> {
+    port.note(bytes)
+}
+
 fn failing(kind: CallKind, number: u64, through: u32) -> FailAt {
     FailAt {
         kind,
@@ -29,17 +42,17 @@ fn listed_calls_of_each_kind_fail(rt: HostRuntime) -> Result<(), Fail> {
     ];
     let mut port = port(rt.alloc(), 10, 100, &list)?;
     let mut buf = [0; 3];
-    assert_eq!(rt; port.read(&mut buf), Ok(3));
+    assert_eq!(rt; read(&mut port, &mut buf), Ok(3));
     assert_eq!(rt; &buf, b"123");
-    assert_eq!(rt; port.read(&mut buf), Err(Fault));
-    assert_eq!(rt; port.read(&mut buf), Ok(2));
+    assert_eq!(rt; read(&mut port, &mut buf), Err(Fault));
+    assert_eq!(rt; read(&mut port, &mut buf), Ok(2));
     assert_eq!(rt; &buf, b"453");
-    assert_eq!(rt; port.read(&mut buf), Ok(0));
-    assert_eq!(rt; port.write(b"ab"), Ok(()));
-    assert_eq!(rt; port.write(b"cd"), Err(Fault));
-    assert_eq!(rt; port.write(b"ef"), Ok(()));
-    assert_eq!(rt; port.note(b"gh"), Err(Fault));
-    assert_eq!(rt; port.note(b"ij"), Ok(()));
+    assert_eq!(rt; read(&mut port, &mut buf), Ok(0));
+    assert_eq!(rt; write(&mut port, b"ab"), Ok(()));
+    assert_eq!(rt; write(&mut port, b"cd"), Err(Fault));
+    assert_eq!(rt; write(&mut port, b"ef"), Ok(()));
+    assert_eq!(rt; note(&mut port, b"gh"), Err(Fault));
+    assert_eq!(rt; note(&mut port, b"ij"), Ok(()));
     assert_eq!(rt; port.written(), b"abcef".as_slice());
     assert_eq!(rt; port.noted(), b"ghij".as_slice());
     Ok(())
@@ -49,13 +62,17 @@ fn listed_calls_of_each_kind_fail(rt: HostRuntime) -> Result<(), Fail> {
 fn calls_past_the_room_fail_and_add_nothing(rt: HostRuntime) -> Result<(), Fail> {
     let mut port = port(rt.alloc(), 3, 3, &[failing(CallKind::Write, 0, 1)])?;
     let mut buf = [0; 3];
-    assert_eq!(rt; port.write(b"abcd"), Err(Fault), "the room decides, and not the list");
+    assert_eq!(rt;
+        write(&mut port, b"abcd"),
+        Err(Fault),
+        "the room decides, and not the list"
+    );
     assert_eq!(rt; port.written().len(), 0);
-    assert_eq!(rt; port.write(b"ab"), Ok(()));
-    assert_eq!(rt; port.note(b"cd"), Err(Fault));
-    assert_eq!(rt; port.note(b"c"), Ok(()));
-    assert_eq!(rt; port.read(&mut buf), Ok(3));
-    assert_eq!(rt; port.read(&mut buf), Err(Fault));
+    assert_eq!(rt; write(&mut port, b"ab"), Ok(()));
+    assert_eq!(rt; note(&mut port, b"cd"), Err(Fault));
+    assert_eq!(rt; note(&mut port, b"c"), Ok(()));
+    assert_eq!(rt; read(&mut port, &mut buf), Ok(3));
+    assert_eq!(rt; read(&mut port, &mut buf), Err(Fault));
     assert_eq!(rt; port.written(), b"ab".as_slice());
     assert_eq!(rt; port.noted(), b"c".as_slice());
     Ok(())
@@ -102,13 +119,17 @@ fn a_real_port_passes_bytes_and_tells_failures(rt: HostRuntime) -> Result<(), Fa
     let mut notes = [0; 3];
     let mut port = RealPort::new(input, &mut output, &mut notes[..]);
     let mut buf = [0; 3];
-    assert_eq!(rt; port.read(&mut buf), Ok(2));
+    assert_eq!(rt; read(&mut port, &mut buf), Ok(2));
     assert_eq!(rt; &buf[..2], b"12".as_slice());
-    assert_eq!(rt; port.read(&mut buf), Err(Fault));
-    assert_eq!(rt; port.write(b"ab"), Ok(()));
-    assert_eq!(rt; port.write(b""), Ok(()));
-    assert_eq!(rt; port.note(b"xyz"), Ok(()));
-    assert_eq!(rt; port.note(b"!"), Err(Fault), "a writer that takes no byte");
+    assert_eq!(rt; read(&mut port, &mut buf), Err(Fault));
+    assert_eq!(rt; write(&mut port, b"ab"), Ok(()));
+    assert_eq!(rt; write(&mut port, b""), Ok(()));
+    assert_eq!(rt; note(&mut port, b"xyz"), Ok(()));
+    assert_eq!(rt;
+        note(&mut port, b"!"),
+        Err(Fault),
+        "a writer that takes no byte"
+    );
     drop(port);
     assert_eq!(rt; output.as_slice(), b"ab".as_slice());
     assert_eq!(rt; &notes, b"xyz");

@@ -1,4 +1,4 @@
-use Rattle.std.proofs.Common.{◌≡◌, rules, sym, subst, ◌∙◌}
+use Rattle.std.proofs.Common.{◌≡◌, sym, subst, ◌∙◌}
 use Rattle.mmt_io.specs.Kept.{Kept}
 use Rattle.mmt_io.specs.History.{bytes_noted}
 use Rattle.mmt_io.proofs.Keeping.{noted-events}

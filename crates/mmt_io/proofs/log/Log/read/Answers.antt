@@ -1,4 +1,4 @@
-use Rattle.std.proofs.Common.{rules, arith}
+use Rattle.std.proofs.Common.{arith}
 use Rattle.mmt_io.proofs.Keeping.{Keeps, fits_room, kept_read}
 use Rattle.mmt_io.proofs.log.Log.read.Goals as goal
 
