@@ -9,6 +9,7 @@ pub record Moment : Type 0 where
   pub reads : ℕ
   pub writes : ℕ
 
+-- the moment of these four
 abbrev pub moment : List Event → List ℕ → ℕ → ℕ → Moment
 moment history left reads writes = record { history = history; left = left; reads = reads; writes = writes }
 
@@ -18,5 +19,6 @@ pub record Faults : Type 0 where
   pub writes : ℕ
   pub shelf : ℕ
 
+-- the counts of these three
 abbrev pub faults : ℕ → ℕ → ℕ → Faults
 faults reads writes shelf = record { reads = reads; writes = writes; shelf = shelf }

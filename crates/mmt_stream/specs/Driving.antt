@@ -57,6 +57,6 @@ EndsWith m gathered packets wanted old new outcome =
     ((outcome ≡ wanted) × Emits old new gathered nothing (m.so_far packets) (m.at_end packets))
     ⊎ ((reason : Halt) × (outcome ≡ halted reason) × EmitsStart old new gathered (m.so_far packets) (m.at_end packets))
 
--- what settling leaves: a consumer that has gathered nothing, or the end of the run
+-- the consumer was given no packets, and has gathered nothing
 abbrev pub IsNew : {C : Type 0} → (C → List Packet → Type 0) → (C → Output) → C → Type 0
 IsNew stands gathered consumer = stands consumer [] × (gathered consumer ≡ nothing)
