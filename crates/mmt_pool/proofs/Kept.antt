@@ -1,8 +1,8 @@
 -- Kept packets: their sum, their order, those that are taken out, and those that come.
-use Rattle.std.proofs.Common.{◌≡◌, ℕ, ◌+◌, ◌-◌, ◌<◌, ◌≤◌, ◌^◌, Bool, true, false, ◌&&◌, ◌||◌, ◌==◌, nat_lt, cond, List, [], ◌∷◌, length, take, drop, refl, ap, sym, ◌∙◌, arith, filter, sum_by, max, Option, Some, None, Result, Ok, Err}
+use Rattle.std.proofs.Common.{◌≡◌, ℕ, ◌+◌, ◌-◌, ◌<◌, ◌≤◌, Bool, true, false, ◌||◌, nat_lt, cond, List, [], ◌∷◌, length, take, drop, refl, ap, arith, filter, max, Some, None, Result, Ok, Err}
 use Rattle.std.specs.List.{list_any, AllByRecursion}
 use Rattle.std.proofs.lemmas.Bool.Decides.{nat_tests}
-use Rattle.std.proofs.lemmas.Bool.{ltb-false, lt-ltb, le-ltb}
+use Rattle.std.proofs.lemmas.Bool.{lt-ltb, le-ltb}
 use Rattle.std.proofs.lemmas.List.Sums.{sum_by-cons}
 use Rattle.mmt_base.specs.Ticks.{is_after, plus}
 use Rattle.mmt_model.specs.Sorted.{insert_by}
@@ -13,7 +13,7 @@ use Rattle.mmt_pool.specs.declared.types.NotStored.{NotStored}
 use Rattle.mmt_pool.specs.declared.types.NotStored.TheVariants as why
 use Rattle.mmt_pool.specs.Holding.{Kept, Holding, held, size_of, is_at, is_before, is_in_window, packet_at, without, IsInOrder, IsKeepable, HasRoom, IsSound, HasPart, part_at, LiesAt}
 use Rattle.mmt_pool.specs.Outcome.{pool_outcome}
-use Rattle.mmt_pool.specs.Doing.{with_packet, Stores, Expires, IsExpired}
+use Rattle.mmt_pool.specs.Doing.{with_packet, Stores}
 
 -- the sum without a packet is less by its length
 pub held-without : (kept : List Kept) (id number : ℕ) (p : Kept) → packet_at kept id number ≡ Some p → held (without kept id number) + length p.payload ≡ held kept

@@ -1,5 +1,5 @@
 -- What a pool does is what the model does with packets that show the kept ones.
-use Rattle.std.proofs.Common.{◌≡◌, ℕ, ◌+◌, Bool, true, false, not, ◌&&◌, ◌||◌, ◌==◌, nat_lt, cond, List, [], ◌∷◌, map, length, refl, ap, sym, ◌∙◌, arith, filter, sum_by, Option, Some, None, Result, Ok, Err}
+use Rattle.std.proofs.Common.{◌≡◌, ℕ, ◌+◌, Bool, true, false, not, ◌||◌, nat_lt, cond, List, [], ◌∷◌, map, length, refl, ap, sym, ◌∙◌, arith, filter, sum_by, Some, Result, Ok, Err}
 use Rattle.std.specs.List.{list_any}
 use Rattle.std.proofs.lemmas.List.Sums.{sum_by-cons}
 use Rattle.mmt_base.specs.Ticks.{is_after, plus}
@@ -12,7 +12,7 @@ use Rattle.mmt_pool.specs.declared.types.NotStored.{NotStored}
 use Rattle.mmt_pool.specs.declared.types.NotStored.TheVariants as why
 use Rattle.mmt_pool.specs.Holding.{Kept, Holding, held, size_of, is_at, is_before, is_in_window}
 use Rattle.mmt_pool.specs.Outcome.{pool_outcome, Shows, Follows}
-use Rattle.mmt_pool.specs.Doing.{with_packet, Refuses, Stores}
+use Rattle.mmt_pool.specs.Doing.{Refuses, Stores}
 
 repeat-shown : (heard : Kept → Heard) → Shows heard → (p q : Kept) → is_repeat (heard p) (heard q) ≡ is_at p.packet_id p.number q
 unfolding is_repeat is_at

@@ -1,5 +1,5 @@
 -- What the calls of a pool do.
-use Rattle.std.specs.Prelude.{◌≡◌, ℕ, ◌+◌, max, Bool, true, false, List, [], ◌∷◌, length, Option, Some, None, Result, Ok, Err}
+use Rattle.std.specs.Prelude.{◌≡◌, ℕ, ◌+◌, max, true, false, List, length, Option, Some, None, Result, Ok, Err}
 use Rattle.std.specs.List.{AllByRecursion}
 use Rattle.mmt_packet.specs.declared.packet.Kind.{Kind}
 use Rattle.mmt_packet.specs.declared.packet.Packet.{Packet}

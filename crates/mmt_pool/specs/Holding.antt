@@ -1,5 +1,5 @@
 -- What a pool holds: the receiver's buffer, after the hypothetical receiver buffer model of ISO/IEC 23008-1.
-use Rattle.std.specs.Prelude.{◌≡◌, ℕ, ◌+◌, ◌<◌, ◌≤◌, ◌^◌, Bool, true, false, not, ◌&&◌, ◌||◌, nat_lt, ◌==◌, List, [], ◌∷◌, length, take, drop, Option, Some, None, if◌then◌else◌, option_map, IsSomeAnd, ⊤}
+use Rattle.std.specs.Prelude.{◌≡◌, ℕ, ◌+◌, ◌<◌, ◌≤◌, ◌^◌, Bool, true, false, ◌&&◌, ◌||◌, nat_lt, ◌==◌, List, [], ◌∷◌, length, take, drop, Option, Some, None, if◌then◌else◌, option_map, IsSomeAnd, ⊤}
 use Rattle.std.specs.List.{sum_by, list_any, AllByRecursion}
 use Rattle.mmt_base.specs.Ticks.{is_after, plus}
 use Rattle.mmt_packet.specs.declared.packet.Kind.{Kind}

@@ -1,5 +1,5 @@
 -- What becomes of a packet that is offered to a pool, in the pool's words and in the model's.
-use Rattle.std.specs.Prelude.{◌≡◌, ℕ, ◌+◌, Bool, true, nat_lt, List, length, Option, Some, None, Result, Ok, Err, if◌then◌else◌, map}
+use Rattle.std.specs.Prelude.{◌≡◌, ℕ, ◌+◌, true, nat_lt, List, length, Option, Some, None, Result, Ok, Err, if◌then◌else◌, map}
 use Rattle.std.specs.List.{list_any}
 use Rattle.mmt_base.specs.Ticks.{is_after, plus}
 use Rattle.mmt_model.specs.Packets.{Heard}

@@ -1,10 +1,9 @@
-use Rattle.std.proofs.Common.{◌≡◌, refl, ap, sym, ◌∙◌, map, true, false, Some, rules, arith, subst, option_map}
+use Rattle.std.proofs.Common.{◌≡◌, refl, sym, true, false, Some}
 use Rattle.std.specs.Map.{lookup}
 use Rattle.std.specs.Ordering.{is_eq}
 use Rattle.std.proofs.lemmas.Map.Views.{All-turn}
 use Rattle.std.proofs.lemmas.Map.Iter.{rest_more}
 use Rattle.std.specs.Map.Iter.{deref_pair}
-use Rattle.mmt_base.specs.Ticks.{is_after, plus}
 use Rattle.mmt_pool.specs.Stored.{entry_of}
 use Rattle.mmt_pool.proofs.Entries.{order, packet_at-entries, window-entry}
 use Rattle.mmt_pool.proofs.pool.expired.Goals as goal

@@ -1,4 +1,4 @@
-use Rattle.std.proofs.Common.{◌≡◌, ℕ, List, refl, ap, sym, ◌∙◌}
+use Rattle.std.proofs.Common.{◌≡◌, ℕ, List, ap, ◌∙◌}
 use Rattle.mmt_pool.specs.Holding.{Kept, Holding}
 use Rattle.mmt_pool.proofs.tests.expire.Goals as goal
 

@@ -1,4 +1,4 @@
-use Rattle.std.proofs.Common.{◌≡◌, ℕ, length, filter}
+use Rattle.std.proofs.Common.{◌≡◌, length, filter}
 use Rattle.mmt_pool.specs.Holding.{is_in_window}
 use Rattle.mmt_pool.proofs.tests.expire.Given as goal
 

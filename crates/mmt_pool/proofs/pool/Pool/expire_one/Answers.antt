@@ -1,6 +1,6 @@
-use Rattle.std.proofs.Common.{refl, arith, rules, ap, sym, ◌≤◌, ◌<◌, ◌^◌, ◌+◌, map, ◌≡◌, ◌∙◌, Some, None, length}
-use Rattle.mmt_pool.specs.Holding.{held, without, size_of, packet_at, Holding, IsKeepable, IsSound}
-use Rattle.mmt_pool.specs.Stored.{entry_of, holding_of}
+use Rattle.std.proofs.Common.{refl, arith, rules, ap, sym, ◌<◌, ◌^◌, ◌≡◌, Some, None, length}
+use Rattle.mmt_pool.specs.Holding.{size_of, IsKeepable}
+use Rattle.mmt_pool.specs.Stored.{holding_of}
 use Rattle.mmt_pool.proofs.Entries.{without-entries, removed}
 use Rattle.mmt_pool.proofs.Kept.{held-without, length-without, filter-without, filter-all, each_at, sound-without}
 use Rattle.mmt_pool.proofs.pool.Pool.expire_one.Goals as goal

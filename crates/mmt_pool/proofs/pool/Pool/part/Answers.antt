@@ -1,4 +1,4 @@
-use Rattle.std.proofs.Common.{refl, arith, rules, ◌≡◌, ◌≤◌, ◌+◌, map, length, Some, None, ap, sym, ◌∙◌}
+use Rattle.std.proofs.Common.{refl, rules, ◌≡◌, ◌≤◌, ◌+◌, map, length, Some, None}
 use Rattle.mmt_pool.specs.Holding.{packet_at, HasPart}
 use Rattle.mmt_pool.specs.Stored.{entry_of}
 use Rattle.mmt_pool.proofs.Entries.{packet_at-entries}

@@ -1,8 +1,7 @@
-use Rattle.std.proofs.Common.{refl, arith, ◌≡◌, ◌∙◌, ap, map, length, List, false, sym, ◌+◌, ℕ}
-use Rattle.std.specs.List.{list_any}
+use Rattle.std.proofs.Common.{arith, ◌≡◌, ◌∙◌, ap, map, length, List, ◌+◌, ℕ}
 use Rattle.mmt_pool.specs.declared.types.Span.{Span}
 use Rattle.mmt_pool.specs.declared.pool.Stored.{Stored}
-use Rattle.mmt_pool.specs.Holding.{Kept, Holding, IsKeepable, HasRoom, held, is_at, size_of, is_before}
+use Rattle.mmt_pool.specs.Holding.{Kept, Holding, IsKeepable, HasRoom, held, size_of, is_before}
 use Rattle.mmt_pool.specs.Stored.{entry_of, holding_of}
 use Rattle.mmt_pool.specs.Doing.{with_packet}
 use Rattle.mmt_model.proofs.Inserting.{sum-insert}

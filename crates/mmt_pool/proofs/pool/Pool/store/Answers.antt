@@ -1,8 +1,7 @@
-use Rattle.std.proofs.Common.{refl, arith, ◌≡◌, ◌<◌, ◌^◌, sym, ◌∙◌, ap, length, Ok, Err, List, ℕ}
-use Rattle.mmt_model.specs.Keeping.{Outcome}
+use Rattle.std.proofs.Common.{refl, arith, ◌≡◌, Ok, Err}
 use Rattle.mmt_pool.specs.declared.types.NotStored.TheVariants as why
-use Rattle.mmt_pool.specs.Holding.{Kept, IsSound, IsKeepable, HasRoom}
-use Rattle.mmt_pool.specs.Doing.{of_packet, with_packet, Stores}
+use Rattle.mmt_pool.specs.Holding.{IsSound, IsKeepable}
+use Rattle.mmt_pool.specs.Doing.{of_packet, with_packet}
 use Rattle.mmt_pool.proofs.Kept.{lying, stored-room, sound-stores, peak-stores}
 use Rattle.mmt_pool.proofs.Model.{refuses-stores, follows-stores}
 use Rattle.mmt_pool.proofs.pool.Pool.store.Goals as goal
