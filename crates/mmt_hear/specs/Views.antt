@@ -1,5 +1,5 @@
 -- What a hearer answers and keeps, as the definition of hearing sees it.
-use Rattle.std.specs.Prelude.{ℕ, List, Option}
+use Rattle.std.specs.Prelude.{ℕ, ◌<◌, ◌^◌, List, Option, length}
 use Rattle.mmt_tlv.specs.Framing.{Packet}
 use Rattle.mmt_ip.specs.declared.packet.Ip6Header.{Ip6Header}
 use Rattle.mmt_ctx.specs.Headers.{HasRead}
@@ -17,3 +17,9 @@ hearing_of (heard.Refused at why) = Hearing.Refusal at why
 -- a table of headers has those that these packets carried, the newest of them first
 abbrev pub HasHeard : List Packet → List (Option Ip6Header) → Type 0
 HasHeard earlier table = HasRead (compressed_bodies earlier) table
+
+-- the payload of an MMTP packet has fewer than 2^16 bytes
+abbrev pub IsShort : Heard → Type 0
+IsShort (heard.Packet packet from) = length packet.payload.now < 2 ^ 16
+IsShort heard.NotOurs = Unit {0}
+IsShort (heard.Refused at why) = Unit {0}

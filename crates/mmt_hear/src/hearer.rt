@@ -1,6 +1,6 @@
 //! Hearing the MMTP packets of a stream.
 
-ghost use Rattle.std.specs.Prelude.{◌≡◌, ℕ, ◌<◌, ◌^◌, List, [], ◌∷◌, None, length, replicate, IfOk};
+ghost use Rattle.std.specs.Prelude.{◌≡◌, ℕ, ◌+◌, ◌<◌, ◌^◌, List, ◌∷◌, [], length, IfOk};
 ghost use Rattle.mmt_tlv.specs.Framing.{Packet as Tlv, Fits, spelling};
 ghost use Rattle.mmt_tlv.specs.Cutting.{IsPacket};
 
@@ -28,7 +28,7 @@ pub enum Heard<'a> {
 
 ghost use Rattle.mmt_ip.specs.Reading.{packet_of as datagram_of};
 ghost use Rattle.mmt_hear.specs.Hearing.{is_ours as ours, heard_flow, heard_datagram, hearing};
-ghost use Rattle.mmt_hear.specs.Views.{hearing_of};
+ghost use Rattle.mmt_hear.specs.Views.{hearing_of, IsShort};
 
 // Whether the choice takes the flow, and it isn't NTP's.
 fn is_ours(flow: &FlowChoice, header: &Ip6Header) -> bool
@@ -48,8 +48,9 @@ fn is_ours(flow: &FlowChoice, header: &Ip6Header) -> bool
 // The UDP payload at a place of the TLV packet, where the flow is ours.
 fn payload(ours: bool, from: u32, bytes: &[u8]) -> Heard<'_>
     requires place { from < 64 }
-    requires short { length bytes.now < 2 ^ 31 }
-    ensures { hearing_of result ≡ heard_flow ours from bytes.now }
+    requires short { length bytes.now < 2 ^ 16 }
+    ensures heard { hearing_of result ≡ heard_flow ours from bytes.now }
+    ensures short { IsShort result }
 {
     if !ours {
         return Heard::NotOurs;
@@ -66,7 +67,8 @@ fn payload(ours: bool, from: u32, bytes: &[u8]) -> Heard<'_>
 // An IPv6 packet, which begins at byte 4 of the TLV packet.
 fn datagram<'a>(flow: &FlowChoice, body: &'a [u8]) -> Heard<'a>
     requires { length body.now < 2 ^ 16 }
-    ensures { hearing_of result ≡ heard_datagram flow.now (datagram_of body.now) }
+    ensures heard { hearing_of result ≡ heard_datagram flow.now (datagram_of body.now) }
+    ensures short { IsShort result }
 {
     match read_ip6udp(body) {
         Ok(packet) => payload(is_ours(flow, &packet.header), 52, packet.payload),
@@ -123,6 +125,7 @@ impl Hearer {
     // A header-compressed packet, which begins at byte 4 of the TLV packet.
     fn compressed<'a>(&mut self, flow: &FlowChoice, body: &'a [u8]) -> Heard<'a>
         requires { length body.now < 2 ^ 16 }
+        ensures short { IsShort result }
         ensures heard { (earlier : List (List ℕ)) → HasRead earlier self.old → hearing_of result ≡ heard_compressed flow.now (opened_after earlier body.now) }
         ensures next { (earlier : List (List ℕ)) → HasRead earlier self.old → HasRead (body.now ∷ earlier) self.new }
     {
@@ -143,6 +146,8 @@ impl Hearer {
     /// outermost layer that refuses (ARIB STD-B32 Part 3, RFC 8200, RFC 768, ISO/IEC 23008-1).
     pub fn hear<'a>(&mut self, flow: &FlowChoice, tlv: &'a [u8]) -> Heard<'a>
         requires { IsPacket tlv.now }
+        // The payload of what is heard has fewer than 2^16 bytes.
+        ensures short { IsShort result }
         // For every list of earlier packets, the newest of them first.
         ensures heard { (earlier : List Tlv) (packet : Tlv) → Fits packet → tlv.now ≡ spelling packet → HasHeard earlier self.old → hearing_of result ≡ hearing flow.now earlier packet }
         ensures next { (earlier : List Tlv) (packet : Tlv) → Fits packet → tlv.now ≡ spelling packet → HasHeard earlier self.old → HasHeard (packet ∷ earlier) self.new }

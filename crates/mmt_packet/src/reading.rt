@@ -49,6 +49,7 @@ fn is_scrambled(extension: &Extension<'_>) -> bool
 fn one_extension(at: u32, bytes: &[u8]) -> Result<(Extension<'_>, &[u8]), Refused<PacketWhy>>
     requires { at < 2 ^ 31 }
     ensures gives { Gives (λ x. (view_extension x.0, x.1.now)) result (extension_at at bytes.now) }
+    ensures len { IfOk result (λ x. length x.1.now ≤ length bytes.now) }
     ensures place { IfErr result (λ e. e.at ≤ at + length bytes.now) }
 {
     let (kind, rest) = u16_at(bytes, at, PacketWhy::Short)?;
@@ -72,6 +73,7 @@ fn optional_extension(
 ) -> Result<(Option<Extension<'_>>, &[u8]), Refused<PacketWhy>>
     requires { at < 2 ^ 31 }
     ensures gives { Gives (λ x. (view_option x.0, x.1.now)) result (optional_at stands (extension_at at) bytes.now) }
+    ensures len { IfOk result (λ x. length x.1.now ≤ length bytes.now) }
     ensures place { IfErr result (λ e. e.at ≤ at + length bytes.now) }
 {
     if !stands {
@@ -104,6 +106,7 @@ fn extension_place(has_counter: bool) -> u32
 #[tactic(auto, unfolding(crate::specs::Reading::packet_of))]
 fn packet(bytes: &[u8]) -> Result<Packet<'_>, Refused<PacketWhy>>
     ensures gives { Gives view result (packet_of bytes.now) }
+    ensures within { IfOk result (λ p. length p.payload.now ≤ length bytes.now) }
     ensures place { IfErr result (λ e. e.at ≤ length bytes.now) }
 {
     let (first, rest) = u8_at(bytes, 0, PacketWhy::Short)?;
@@ -164,7 +167,8 @@ pub fn read_packet(bytes: &[u8]) -> Result<Packet<'_>, Refused<PacketWhy>>
     ensures only { (v : Value) → Fits v → bytes.now ≡ spelling v → Gives view result (Ok v) }
     // Which refusal it is, and where.
     ensures exact { Gives view result (packet_of bytes.now) }
-    // The place lies within the bytes, or directly behind them.
+    // The payload lies within the bytes, and so does the place of a refusal, or directly behind them.
+    ensures within { IfOk result (λ p. length p.payload.now ≤ length bytes.now) }
     ensures place { IfErr result (λ e. e.at ≤ length bytes.now) }
 {
     packet(bytes)

@@ -9,7 +9,7 @@ returns-in-1-clause-heard c = λ earlier packet fits is heard.
 
 pub returns-in-2-clause-heard : goal.returns-in-2-clause-heard
 returns-in-2-clause-heard c = λ earlier packet fits is heard.
-    heard_as _ earlier packet _ 2 _ _ (c.opened-kind.ensures.packet packet fits is) c.in-2.is (ip6_is c.args.flow.now earlier c.opened-kind.result.1.now ∙ sym c.datagram.ensures)
+    heard_as _ earlier packet _ 2 _ _ (c.opened-kind.ensures.packet packet fits is) c.in-2.is (ip6_is c.args.flow.now earlier c.opened-kind.result.1.now ∙ sym c.datagram.ensures.heard)
 
 pub returns-in-3-clause-heard : goal.returns-in-3-clause-heard
 returns-in-3-clause-heard c = λ earlier packet fits is heard.

@@ -1,0 +1,18 @@
+use Rattle.std.proofs.Common.{◌≡◌, ℕ, List, [], sym, subst, ◌∙◌}
+use Rattle.mmt_model.specs.Delivery.{newest_first}
+use Rattle.mmt_stream.specs.Output.{Output, nothing}
+use Rattle.mmt_stream.specs.Consuming.{EmitsStart}
+use Rattle.mmt_peak.specs.Peaking.{line_after}
+use Rattle.mmt_peak.proofs.Ends.{stops, fails}
+use Rattle.mmt_peak.proofs.Lines.{line_is}
+use Rattle.mmt_peak.proofs.command.PeakCommandConsumer.finish.Goals as goal
+
+pub returns-in-Err-clause-finished : goal.returns-in-Err-clause-finished
+returns-in-Err-clause-finished g c = λ told packets stood. stops _ _
+
+pub returns-clause-finished : goal.returns-clause-finished
+returns-clause-finished g c = λ told packets stood.
+    let line : c.as_bytes.result.now ≡ line_after c.args.self.flow c.args.self.buffer.params (newest_first packets) =
+    c.as_bytes.ensures.value ∙ (c.in-Ok.ensures ∙ line_is c.args.self (newest_first packets) stood) in
+    let P : List ℕ → Type 0 = λ b. EmitsStart (g.P.Port.history c.args.port.now) (g.P.Port.history c.write.new.self) nothing nothing (record { written = b; noted = [] }) in
+    subst P line (fails _ _ _ (c.in-Err-write.ensures.bytes told))

@@ -1,0 +1,5 @@
+pub mod Peaking
+pub mod PeakingGrows
+pub mod Buffers
+pub mod Views
+pub mod Commanding
