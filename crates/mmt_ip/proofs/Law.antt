@@ -1,18 +1,14 @@
 -- What is read as a packet was spelled so, and what is spelled so is read.
-use Rattle.std.proofs.Common.{◌≡◌, ℕ, zero, suc, inl, inr, ◌-◌, ◌+◌, ◌*◌, ◌/◌, ◌%◌, ◌^◌, ◌<◌, ◌≤◌, Bool, true, false, ◌||◌, eqb, ltb, leb, List, ◌++◌, length, Result, Ok, Err, refl, sym, ap, subst, ◌∙◌, arith, eq-eqb}
+use Rattle.std.proofs.Common.{◌≡◌, ℕ, zero, suc, inl, inr, ◌-◌, ◌+◌, ◌/◌, ◌%◌, ◌^◌, ◌<◌, ◌≤◌, Bool, true, false, ◌||◌, eqb, leb, List, length, refl, sym, ap, ◌∙◌, arith, eq-eqb}
 use Rattle.std.specs.Prelude.{not}
-use Rattle.std.specs.Int.{w8, w16, w32, w128}
 use Rattle.std.proofs.lemmas.Bool.{eqb-true, le-leb, or_left, or_right, or_cases}
 use Rattle.std.proofs.lemmas.Bool.Decides.{nat_tests}
 use Rattle.std.proofs.lemmas.List.{length-append}
-use Rattle.mmt_base.specs.declared.refused.Refused.{Refused}
-use Rattle.mmt_fields.specs.Reading.{◌>>=◌, number_at, check, big_endian}
-use Rattle.mmt_fields.proofs.Codec.{Stage, Field, Format, Always, field, checked, checked_rest, made}
+use Rattle.mmt_fields.proofs.Codec.{Format, field, checked, checked_rest, made}
 use Rattle.mmt_fields.proofs.Numbers.{u8_field, u16_field, u32_field, u128_field, length_big_endian}
 use Rattle.mmt_ip.specs.declared.packet.Ip6Header.{Ip6Header}
-use Rattle.mmt_ip.specs.declared.packet.IpWhy.{IpWhy}
 use Rattle.mmt_ip.specs.declared.packet.IpWhy.TheVariants as why
-use Rattle.mmt_ip.specs.Spelling.{Value, HeaderFits, Fits, first_word, udp_length, covered, checksum, sum_of, sum_field, spelling}
+use Rattle.mmt_ip.specs.Spelling.{HeaderFits, Fits, first_word, udp_length, covered, checksum, sum_of, sum_field, spelling}
 use Rattle.mmt_ip.specs.Sum.{written, ones_sum}
 use Rattle.mmt_ip.specs.Reading.{packet_of}
 

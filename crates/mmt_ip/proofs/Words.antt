@@ -1,7 +1,7 @@
 -- The sum of words without carries, and what it says of the one's complement sum (RFC 1071, section 2).
-use Rattle.std.proofs.Common.{◌≡◌, ℕ, zero, suc, ◌+◌, ◌-◌, ◌*◌, ◌/◌, ◌%◌, ◌^◌, ◌<◌, ◌≤◌, Bool, true, false, ltb, cond, List, [], ◌∷◌, ◌++◌, length, take, drop, refl, sym, ap, ◌∙◌, arith, inl, inr}
+use Rattle.std.proofs.Common.{◌≡◌, ℕ, zero, suc, ◌+◌, ◌-◌, ◌*◌, ◌/◌, ◌%◌, ◌^◌, ◌<◌, ◌≤◌, List, [], ◌∷◌, ◌++◌, length, take, drop, refl, sym, ap, ◌∙◌, arith}
 use Rattle.std.proofs.lemmas.Bool.Decides.{nat_tests}
-use Rattle.std.specs.Int.{Width, w8, w16, w32, w64, w128, byte_len, from_be_bytes, to_be_bytes}
+use Rattle.std.specs.Int.{Width, w16, w32, w128, byte_len, from_le_bytes}
 use Rattle.std.proofs.lemmas.List.{take-append-drop, length-take}
 use Rattle.mmt_fields.specs.Reading.{big_endian}
 use Rattle.mmt_fields.proofs.Codec.{IsBytes}
@@ -107,25 +107,24 @@ checksum_is h payload are len sp dp =
     rw (ones_is (covered h payload) (covered_are h payload are), total) (complement (total_of h payload) (omega arith))
 
 -- what the program adds is the sum of the words modulo 65535
-pub total_is : (h : Ip6Header) (payload : List ℕ) (a b p : ℕ) → a % 65535 ≡ word_sum (big_endian w128 h.source) % 65535 → b % 65535 ≡ word_sum (big_endian w128 h.destination) % 65535 → p % 65535 ≡ word_sum payload % 65535
-    → (a + b + (8 + length payload) + 17 + (h.source_port + h.destination_port) + (8 + length payload) + p) % 65535 ≡ total_of h payload % 65535
+pub total_is : (h : Ip6Header) (payload : List ℕ) (a b p : ℕ) → 256 * a % 65535 ≡ word_sum (big_endian w128 h.source) % 65535 → 256 * b % 65535 ≡ word_sum (big_endian w128 h.destination) % 65535 → 256 * p % 65535 ≡ word_sum payload % 65535
+    → (256 * ((a + b + p) % 65535) + (8 + length payload) + 17 + (h.source_port + h.destination_port) + (8 + length payload)) % 65535 ≡ total_of h payload % 65535
 total_is h payload a b p ea eb ep = omega arith
 
--- eight bytes as one number are their words modulo 65535
-eight_is : (front : List ℕ) → length front ≡ 8 → (k : ℕ) × (from_be_bytes w64 front ≡ word_sum front + 65535 * k)
-eight_is (a ∷ b ∷ c ∷ d ∷ e ∷ f ∷ g ∷ h ∷ []) len = (a * 1099528405248 + b * 4295032833 + c * 16777472 + d * 65537 + e * 256 + f, omega arith)
-eight_is front len = absurd (omega arith)
+-- sixteen bytes as one number, the lowest first, are 256 times their words modulo 65535 (RFC 1071, section 2, byte order independence)
+sixteen_is : (front : List ℕ) → length front ≡ 16 → (k : ℕ) × (256 * from_le_bytes w128 front ≡ word_sum front + 65535 * k)
+sixteen_is (a ∷ b ∷ c ∷ d ∷ e ∷ f ∷ g ∷ h ∷ i ∷ j ∷ k ∷ l ∷ m ∷ n ∷ o ∷ p ∷ []) len = (b * 1 + c * 256 + d * 65537 + e * 16777472 + f * 4295032833 + g * 1099528405248 + h * 281479271743489 + i * 72058693566333184 + j * 18447025552981295105 + k * 4722438541563211546880 + l * 1208944266640182156001281 + m * 309489732259886631936327936 + n * 79229371458530977775699951617 + o * 20282719093383930310579187613952 + p * 5192376087906286159508272029171713, omega arith)
+sixteen_is front len = absurd (omega arith)
 
--- the same for the next eight bytes of a sum
-pub next_eight : (total : ℕ) (rest front after : List ℕ) → front ≡ take 8 rest → after ≡ drop 8 rest → 8 ≤ length rest → (total + from_be_bytes w64 front + word_sum after) % 65535 ≡ (total + word_sum rest) % 65535
-next_eight total rest front after front-is after-is long =
-    let len : length front ≡ 8 = ap length front-is ∙ omega (arith, length-take 8 rest) in
-    let joined : front ++ after ≡ rest = rw (front-is, after-is) (take-append-drop 8 rest) in
+-- the same for the next sixteen bytes of a sum, whose two halves are added
+pub next_sixteen : (total : ℕ) (rest front after : List ℕ) → front ≡ take 16 rest → after ≡ drop 16 rest → 16 ≤ length rest
+    → (256 * (total + (from_le_bytes w128 front / 2 ^ 64 + from_le_bytes w128 front % 2 ^ 64)) + word_sum after) % 65535 ≡ (256 * total + word_sum rest) % 65535
+next_sixteen total rest front after front-is after-is long =
+    let len : length front ≡ 16 = ap length front-is ∙ omega (arith, length-take 16 rest) in
+    let joined : front ++ after ≡ rest = rw (front-is, after-is) (take-append-drop 16 rest) in
     let words : word_sum rest ≡ word_sum front + word_sum after = ap word_sum (sym joined) ∙ even_words front after (rw len refl) in
-    let e = eight_is front len in
-    let k : ℕ = e.0 in
-    let is : from_be_bytes w64 front ≡ word_sum front + 65535 * k = e.1 in
-    of_k total (from_be_bytes w64 front) (word_sum front) (word_sum after) (word_sum rest) k is words
+    let e = sixteen_is front len in
+    of_k total (from_le_bytes w128 front) (word_sum front) (word_sum after) (word_sum rest) e.0 e.1 words
   where
-    of_k : (total x front after rest k : ℕ) → x ≡ front + 65535 * k → rest ≡ front + after → (total + x + after) % 65535 ≡ (total + rest) % 65535
+    of_k : (total x front after rest k : ℕ) → 256 * x ≡ front + 65535 * k → rest ≡ front + after → (256 * (total + (x / 2 ^ 64 + x % 2 ^ 64)) + after) % 65535 ≡ (256 * total + rest) % 65535
     of_k total x front after rest k e w = omega arith

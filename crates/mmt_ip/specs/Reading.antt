@@ -1,12 +1,11 @@
 -- Reading a packet from left to right, to the value or the first refusal. The fields are those of RFC 8200, section 3, and
 -- RFC 768; the order of the checks, and a checksum of 0 as none, are this project's rules.
-use Rattle.std.specs.Prelude.{ℕ, ◌+◌, ◌*◌, ◌/◌, ◌%◌, ◌^◌, Bool, true, false, not, ◌||◌, ◌==◌, nat_le, List, length, Result, Ok, Err}
+use Rattle.std.specs.Prelude.{ℕ, ◌/◌, ◌%◌, ◌^◌, not, ◌||◌, ◌==◌, nat_le, List, length, Result, Ok}
 use Rattle.std.specs.Int.{w8, w16, w32, w128}
 use Rattle.mmt_base.specs.declared.refused.Refused.{Refused}
 use Rattle.mmt_fields.specs.Reading.{◌>>=◌, number_at, check}
 use Rattle.mmt_ip.specs.declared.packet.IpWhy.{IpWhy}
 use Rattle.mmt_ip.specs.declared.packet.IpWhy.TheVariants as why
-use Rattle.mmt_ip.specs.declared.packet.Ip6Header.{Ip6Header}
 use Rattle.mmt_ip.specs.Spelling.{Value, checksum}
 
 -- the packet that the bytes are, or the first check that they fail with its place; the forty bytes of the first test hold the fields up to the destination, and the eight of the second the rest, so no

@@ -1,5 +1,5 @@
 -- What an IPv6 packet that carries a UDP datagram is, and the bytes that it is spelled by (RFC 8200, section 3; RFC 768).
-use Rattle.std.specs.Prelude.{◌≡◌, ℕ, ◌+◌, ◌-◌, ◌*◌, ◌^◌, ◌<◌, Bool, true, false, List, ◌++◌, length}
+use Rattle.std.specs.Prelude.{ℕ, ◌+◌, ◌-◌, ◌*◌, ◌^◌, ◌<◌, Bool, true, false, List, ◌++◌, length}
 use Rattle.std.specs.Int.{w8, w16, w32, w128}
 use Rattle.mmt_fields.specs.Reading.{big_endian}
 use Rattle.mmt_ip.specs.declared.packet.Ip6Header.{Ip6Header}

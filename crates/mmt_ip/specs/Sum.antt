@@ -1,5 +1,5 @@
 -- The one's complement sum of 16-bit words (RFC 768; RFC 1071, section 1).
-use Rattle.std.specs.Prelude.{ℕ, zero, suc, ◌+◌, ◌-◌, ◌*◌, ◌%◌, List, [], ◌∷◌, nat_lt, if◌then◌else◌}
+use Rattle.std.specs.Prelude.{ℕ, zero, suc, ◌+◌, ◌-◌, ◌*◌, List, [], ◌∷◌, nat_lt, if◌then◌else◌}
 
 -- one's complement addition of two words: a carry out of the sixteen bits is added at the low end (RFC 1071, section 1)
 abbrev pub ones_add : ℕ → ℕ → ℕ

@@ -1,5 +1,5 @@
 //! The UDP checksum over IPv6 (RFC 768; RFC 8200, section 8.1), with the carries folded in at the
-//! end and eight bytes added at a time (RFC 1071, section 2).
+//! end and sixteen bytes added at a time, in the order of the machine (RFC 1071, section 2).
 
 ghost use Rattle.std.specs.Prelude.{◌≡◌, ◌+◌, ◌*◌, ◌%◌, ◌<◌, ◌≤◌, ◌^◌, length};
 ghost use Rattle.mmt_ip.specs.Spelling.{checksum};
@@ -9,7 +9,7 @@ use crate::packet::Ip6Header;
 
 /// The sum of the 16-bit words of a few bytes, with a zero byte added to an odd length.
 fn short_sum(bytes: &[u8]) -> u64
-    requires { length bytes.now < 8 }
+    requires { length bytes.now < 16 }
     ensures sum { result ≡ word_sum bytes.now }
     ensures bound { result ≤ 65535 * length bytes.now }
 {
@@ -25,20 +25,22 @@ fn short_sum(bytes: &[u8]) -> u64
     }
 }
 
-/// A number that is the sum of the 16-bit words modulo 65535. A carry out of a word is worth 1 at
-/// its low end, so eight bytes are added as one number of 64 bits.
+/// A number that is the sum of the 16-bit words modulo 65535, once it is multiplied by 256: its words
+/// are read with their lower byte first, and 256 times 256 is 1 modulo 65535. A carry out of a word
+/// is worth 1 at its low end, so eight bytes are added as one number of 64 bits.
 fn wide_sum(bytes: &[u8]) -> u128
     requires { length bytes.now < 2 ^ 31 }
-    ensures sum { result % 65535 ≡ word_sum bytes.now % 65535 }
+    ensures sum { 256 * result % 65535 ≡ word_sum bytes.now % 65535 }
     ensures bound { result ≤ 2 ^ 64 * length bytes.now }
 {
     let mut total: u128 = 0;
     let mut rest = bytes;
-    while let Some((chunk, after)) = rest.split_first_chunk::<8>() {
-        total += u64::from_be_bytes(*chunk) as u128;
+    while let Some((chunk, after)) = rest.split_first_chunk::<16>() {
+        let words = u128::from_le_bytes(*chunk);
+        total += (words >> 64) + words % (1 << 64);
         rest = after;
     }
-    total + short_sum(rest) as u128
+    total + short_sum(rest) as u128 * 256
 }
 
 /// The number modulo 65535, by its two halves: 2^64 is 1 modulo 65535.
@@ -55,12 +57,13 @@ pub(crate) fn checksum_of(header: &Ip6Header, payload: &[u8]) -> u16
     requires { 8 + length payload.now < 2 ^ 16 }
     ensures { result ≡ checksum header.now payload.now }
 {
-    let addresses = wide_sum(&header.source.to_be_bytes())
-        + wide_sum(&header.destination.to_be_bytes());
-    let ports = header.source_port as u128 + header.destination_port as u128;
-    let length = 8 + payload.len() as u128;
-    let total = addresses + length + 17 + ports + length + wide_sum(payload);
-    (65535 - folded(total)) as u16
+    let swapped = wide_sum(&header.source.to_be_bytes())
+        + wide_sum(&header.destination.to_be_bytes())
+        + wide_sum(payload);
+    let ports = header.source_port as u64 + header.destination_port as u64;
+    let length = 8 + payload.len() as u64;
+    let total = 256 * folded(swapped) + length + 17 + ports + length;
+    (65535 - total % 65535) as u16
 }
 
 /// The checksum of a UDP datagram as it is written, over the pseudo header of the two addresses, the

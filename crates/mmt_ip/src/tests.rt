@@ -87,28 +87,27 @@ fn each_refusal_at_its_place(rt: HostRuntime) {
 }
 
 #[test]
-fn each_prefix_is_refused_and_no_checksum_is_taken(rt: HostRuntime) -> Result<(), Fail> {
+fn each_prefix_is_refused(rt: HostRuntime) {
     for (count, _) in PLAIN.iter().enumerate() {
         let (prefix, _) = PLAIN.split_at(count);
-        let refused = if count < 40 {
-            Refused {
-                at: 0,
-                why: IpWhy::Short,
-            }
+        let (at, why) = if count < 40 {
+            (0, IpWhy::Short)
         } else {
-            Refused {
-                at: 4,
-                why: IpWhy::Length,
-            }
+            (4, IpWhy::Length)
         };
-        assert_eq!(rt; read_ip6udp(prefix).err(), Some(refused));
+        assert_eq!(rt; read_ip6udp(prefix).err(), Some(Refused { at, why }));
     }
+}
+
+#[test]
+fn a_packet_with_no_checksum_both_ways(rt: HostRuntime) -> Result<(), Fail> {
     let mut bytes = PLAIN.to_vec(rt.alloc())?;
     assert_eq!(rt; bytes.len(), 51);
     bytes[46] = 0;
     bytes[47] = 0;
     let packet = read_ip6udp(&bytes)?;
     assert!(rt; !packet.summed);
+    assert_eq!(rt; packet.payload, b"abc".as_slice());
     let mut out = Vec::new(rt.alloc());
     assert_eq!(rt; write_ip6udp(&mut out, &packet), Ok(()));
     assert_eq!(rt; out.as_slice(), bytes.as_slice());
