@@ -1,20 +1,17 @@
 -- What is read as a header-compressed packet was spelled so, and what is spelled so is read.
-use Rattle.std.proofs.Common.{◌≡◌, ℕ, inl, inr, ◌+◌, ◌*◌, ◌/◌, ◌%◌, ◌^◌, ◌<◌, Bool, true, false, ◌||◌, eqb, leb, List, ◌++◌, length, Option, Some, None, Result, Ok, Err, refl, sym, append_assoc, arith, eq-eqb}
+use Rattle.std.proofs.Common.{◌≡◌, ℕ, inl, inr, ◌+◌, ◌*◌, ◌/◌, ◌%◌, ◌^◌, ◌<◌, true, ◌||◌, eqb, leb, List, ◌++◌, length, Option, Some, None, refl, sym, append_assoc, arith, eq-eqb}
 use Rattle.std.specs.Option.{is_some}
 use Rattle.std.specs.Int.{w8, w16, w32, w128}
-use Rattle.std.proofs.lemmas.Bool.{eqb-true, le-leb, or_left, or_right, or_cases}
-use Rattle.std.proofs.lemmas.Bool.Decides.{nat_tests}
+use Rattle.std.proofs.lemmas.Bool.{eqb-true, le-leb, or_cases}
 use Rattle.std.proofs.lemmas.List.{length-append}
-use Rattle.mmt_base.specs.declared.refused.Refused.{Refused}
-use Rattle.mmt_fields.specs.Reading.{◌>>=◌, number_at, check, optional_at, optional, big_endian}
+use Rattle.mmt_fields.specs.Reading.{big_endian}
 use Rattle.mmt_fields.proofs.Codec.{Stage, Field, Format, Always, field, checked, checked_rest, made, field_of}
 use Rattle.mmt_fields.proofs.Numbers.{u8_field, u16_field, u32_field, u128_field, optional_field, length_big_endian}
 use Rattle.mmt_ip.specs.declared.packet.Ip6Header.{Ip6Header}
 use Rattle.mmt_ip.specs.Spelling.{HeaderFits, first_word}
 use Rattle.mmt_ip.proofs.Law.{made_header, header_is, header_fits}
-use Rattle.mmt_ctx.specs.declared.packet.CtxWhy.{CtxWhy}
 use Rattle.mmt_ctx.specs.declared.packet.CtxWhy.TheVariants as why
-use Rattle.mmt_ctx.specs.Spelling.{Value, Fits, header_type, full_header, spelling}
+use Rattle.mmt_ctx.specs.Spelling.{Fits, header_type, full_header, spelling}
 use Rattle.mmt_ctx.specs.Reading.{header_at, packet_of}
 
 abbrev HeaderRest : Type 0

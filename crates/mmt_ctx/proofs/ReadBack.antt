@@ -1,14 +1,14 @@
 -- What a squeezer writes is read back.
-use Rattle.std.proofs.Common.{◌≡◌, ◌⊎◌, inl, inr, ℕ, ◌+◌, ◌%◌, ◌^◌, ◌<◌, Bool, true, false, eqb, cond, List, ◌∷◌, Option, Some, None, Result, Ok, Err, refl, sym, ap, ◌∙◌, arith, eq-eqb}
+use Rattle.std.proofs.Common.{◌≡◌, ◌⊎◌, inl, inr, ℕ, ◌%◌, ◌<◌, Bool, true, false, eqb, cond, List, Some, None, Result, Ok, refl, ap, ◌∙◌, arith, eq-eqb}
 use Rattle.std.specs.Prelude.{IfSome}
 use Rattle.mmt_base.specs.declared.refused.Refused.{Refused}
 use Rattle.mmt_ip.specs.declared.packet.Ip6Header.{Ip6Header}
 use Rattle.mmt_ip.specs.Spelling.{HeaderFits}
 use Rattle.mmt_ctx.specs.declared.packet.CtxWhy.{CtxWhy}
-use Rattle.mmt_ctx.specs.Spelling.{Value, Fits, spelling}
+use Rattle.mmt_ctx.specs.Spelling.{Value, spelling}
 use Rattle.mmt_ctx.specs.Reading.{packet_of}
-use Rattle.mmt_ctx.specs.Headers.{Header, carried_by, first_of, last_header, with_header, opened, opened_by, opened_after}
-use Rattle.mmt_ctx.specs.Squeezing.{Squeezing, packet_at, IsReadBack}
+use Rattle.mmt_ctx.specs.Headers.{Header, carried_by, first_of, last_header, opened}
+use Rattle.mmt_ctx.specs.Squeezing.{Squeezing, IsReadBack}
 use Rattle.mmt_ctx.proofs.Law.{packet_format}
 
 -- a packet that carries the header, or none

@@ -2,7 +2,7 @@
 -- (ARIB STD-B32 Part 3, header-compressed IP packet). A list of bodies is the newest first.
 use Rattle.std.specs.Prelude.{◌≡◌, ℕ, ◌<◌, Bool, true, false, ◌==◌, List, [], ◌∷◌, Option, Some, None, Result, Ok, Err, slice_index_or, slice_set, if◌then◌else◌}
 use Rattle.mmt_base.specs.declared.refused.Refused.{Refused}
-use Rattle.mmt_fields.specs.Reading.{refuse, Gives}
+use Rattle.mmt_fields.specs.Reading.{refuse}
 use Rattle.mmt_ip.specs.declared.packet.Ip6Header.{Ip6Header}
 use Rattle.mmt_ctx.specs.declared.packet.CtxWhy.{CtxWhy}
 use Rattle.mmt_ctx.specs.declared.packet.CtxWhy.TheVariants as why

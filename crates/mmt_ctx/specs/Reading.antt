@@ -1,5 +1,5 @@
 -- Reading a header-compressed IP packet from left to right, up to the first refusal.
-use Rattle.std.specs.Prelude.{ℕ, ◌+◌, ◌*◌, ◌/◌, ◌%◌, ◌^◌, Bool, ◌||◌, ◌==◌, nat_le, List, length, Result, Ok, Err}
+use Rattle.std.specs.Prelude.{ℕ, ◌/◌, ◌%◌, ◌^◌, ◌||◌, ◌==◌, nat_le, List, length, Result, Ok}
 use Rattle.std.specs.Int.{w8, w16, w32, w128}
 use Rattle.mmt_base.specs.declared.refused.Refused.{Refused}
 use Rattle.mmt_fields.specs.Reading.{◌>>=◌, number_at, check, optional_at}

@@ -1,5 +1,5 @@
 -- What a header-compressed IP packet is, and its one spelling (ARIB STD-B32 Part 3, header-compressed IP packet).
-use Rattle.std.specs.Prelude.{◌≡◌, ℕ, ◌+◌, ◌*◌, ◌^◌, ◌<◌, List, ◌++◌, length, Option, Some, None, IfSome}
+use Rattle.std.specs.Prelude.{ℕ, ◌+◌, ◌*◌, ◌<◌, List, ◌++◌, Option, Some, None, IfSome}
 use Rattle.std.specs.Int.{w8, w16, w32, w128}
 use Rattle.mmt_fields.specs.Reading.{big_endian, optional}
 use Rattle.mmt_ip.specs.declared.packet.Ip6Header.{Ip6Header}

@@ -1,5 +1,5 @@
 -- The bodies that a squeezer writes, call by call.
-use Rattle.std.specs.Prelude.{◌≡◌, ◌⊎◌, ℕ, ◌%◌, ◌<◌, ◌==◌, List, ◌∷◌, Option, Some, None, Ok, if◌then◌else◌}
+use Rattle.std.specs.Prelude.{◌≡◌, ◌⊎◌, ℕ, ◌%◌, ◌<◌, ◌==◌, List, ◌∷◌, Some, None, Ok, if◌then◌else◌}
 use Rattle.mmt_ip.specs.declared.packet.Ip6Header.{Ip6Header}
 use Rattle.mmt_ip.specs.Spelling.{HeaderFits}
 use Rattle.mmt_ctx.specs.Spelling.{Value, spelling}

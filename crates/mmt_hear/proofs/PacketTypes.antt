@@ -5,7 +5,6 @@ use Rattle.mmt_model.specs.declared.programmes.FlowChoice.{FlowChoice}
 use Rattle.mmt_tlv.specs.Framing.{Packet}
 use Rattle.mmt_ip.specs.Reading.{packet_of as datagram_of}
 use Rattle.mmt_ctx.specs.Headers.{opened_after}
-use Rattle.mmt_hear.specs.declared.why.Why.{Why}
 use Rattle.mmt_hear.specs.declared.why.Why.TheVariants as why
 use Rattle.mmt_hear.specs.Hearing.{Hearing, hearing, heard_datagram, heard_compressed, compressed_bodies}
 

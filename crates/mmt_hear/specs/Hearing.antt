@@ -1,5 +1,5 @@
 -- Which TLV packets are heard, and as what (ARIB STD-B32 Part 3, RFC 8200, RFC 768).
-use Rattle.std.specs.Prelude.{◌≡◌, ℕ, ◌+◌, Bool, true, false, not, ◌&&◌, ◌==◌, List, [], ◌∷◌, ◌++◌, map, Option, Some, None, Result, Ok, Err, if◌then◌else◌}
+use Rattle.std.specs.Prelude.{ℕ, ◌+◌, Bool, true, false, not, ◌&&◌, ◌==◌, List, [], ◌∷◌, map, Result, Ok, Err, if◌then◌else◌}
 use Rattle.std.specs.List.{filter}
 use Rattle.mmt_base.specs.declared.refused.Refused.{Refused}
 use Rattle.mmt_model.specs.declared.programmes.FlowChoice.{FlowChoice}

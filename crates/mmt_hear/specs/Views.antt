@@ -1,5 +1,5 @@
 -- What a hearer answers and keeps, as the definition of hearing sees it.
-use Rattle.std.specs.Prelude.{ℕ, ◌<◌, ◌^◌, List, Option, length}
+use Rattle.std.specs.Prelude.{◌<◌, ◌^◌, List, Option, length}
 use Rattle.mmt_tlv.specs.Framing.{Packet}
 use Rattle.mmt_ip.specs.declared.packet.Ip6Header.{Ip6Header}
 use Rattle.mmt_ctx.specs.Headers.{HasRead}

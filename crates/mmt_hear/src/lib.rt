@@ -7,3 +7,6 @@ mod why;
 
 pub use hearer::{Heard, Hearer};
 pub use why::Why;
+
+#[cfg(test)]
+mod tests;

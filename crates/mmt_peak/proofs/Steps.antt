@@ -1,16 +1,16 @@
 -- One heard packet more, in the words of the definition of keeping.
-use Rattle.std.proofs.Common.{◌≡◌, ℕ, ◌+◌, ◌-◌, ◌^◌, ◌%◌, ◌≤◌, ◌<◌, min, max, Bool, true, false, not, ◌&&◌, cond, nat_lt, List, [], ◌∷◌, map, length, filter, sum_by, Option, Some, None, refl, sym, ap, subst, ◌∙◌, arith, zero-add}
+use Rattle.std.proofs.Common.{◌≡◌, ℕ, ◌+◌, ◌-◌, ◌^◌, ◌≤◌, min, max, Bool, true, false, cond, List, [], ◌∷◌, map, length, filter, Option, Some, refl, sym, ap, subst, ◌∙◌, arith, zero-add}
 use Rattle.std.specs.Prelude.{count_by}
 use Rattle.std.proofs.lemmas.List.Sums.{sum_by-cons}
 use Rattle.mmt_base.specs.Ticks.{advance}
 use Rattle.mmt_model.specs.declared.programmes.Params.{Params}
-use Rattle.mmt_model.specs.Packets.{Heard, Payload}
+use Rattle.mmt_model.specs.Packets.{Heard}
 use Rattle.mmt_model.specs.Keeping.{Outcome, outcome, clock, still_kept, kept, kept_after, peak, bytes_of}
 use Rattle.mmt_pool.specs.Holding.{Kept, Holding, held, size_of, is_in_window}
 use Rattle.mmt_pool.specs.Outcome.{Shows}
 use Rattle.mmt_pool.proofs.Model.{rest-shown}
 use Rattle.mmt_peak.specs.Peaking.{counted, start_of, outcomes, is_stored, is_late, is_repeated, is_full}
-use Rattle.mmt_peak.specs.Buffers.{shown, Tally, tallied, tally_of, clock_with, clock_after, BufferState, HasTaken}
+use Rattle.mmt_peak.specs.Buffers.{shown, Tally, tallied, tally_of, clock_with, clock_after, HasTaken}
 
 pub shows : Shows shown
 shows = record { time = λ p. refl; packet_id = λ p. refl; number = λ p. refl; length = λ p. refl }

@@ -1,7 +1,6 @@
 -- What storing an offered packet does, in the words of the definition of keeping.
-use Rattle.std.proofs.Common.{◌≡◌, ℕ, Bool, true, List, map, Option, Some, Result, Ok, Err, refl, sym, ap, subst, ◌∙◌}
+use Rattle.std.proofs.Common.{◌≡◌, ℕ, true, map, Option, Some, Result, Ok, Err, refl, sym, ap, subst, ◌∙◌}
 use Rattle.mmt_model.specs.declared.programmes.Params.{Params}
-use Rattle.mmt_model.specs.Packets.{Heard, Payload}
 use Rattle.mmt_model.specs.Keeping.{Outcome, outcome, kept_after}
 use Rattle.mmt_packet.specs.declared.packet.Packet.{Packet}
 use Rattle.mmt_packet.specs.Spelling.{view}

@@ -1,5 +1,5 @@
 -- What the buffer of `peak` is after heard packets, of which the newest is the first.
-use Rattle.std.specs.Prelude.{◌≡◌, ℕ, ◌+◌, Bool, true, List, [], ◌∷◌, length, map, Option, Some, None, count_by, Result, Ok, Err}
+use Rattle.std.specs.Prelude.{◌≡◌, ℕ, ◌+◌, true, List, [], ◌∷◌, length, map, Option, Some, None, count_by}
 use Rattle.mmt_base.specs.Ticks.{advance}
 use Rattle.mmt_model.specs.declared.programmes.Params.{Params}
 use Rattle.mmt_model.specs.Packets.{Heard, Payload}

@@ -1,5 +1,5 @@
 -- What `peak` says of a stream: what a receiver's buffer of the given size would have held of it.
-use Rattle.std.specs.Prelude.{◌≡◌, ℕ, ◌+◌, ◌-◌, ◌^◌, min, Bool, true, false, not, ◌&&◌, ◌==◌, List, [], ◌∷◌, ◌++◌, length, codes, decimal, count_by}
+use Rattle.std.specs.Prelude.{ℕ, ◌-◌, ◌^◌, min, Bool, true, false, not, ◌&&◌, ◌==◌, List, [], ◌∷◌, ◌++◌, length, codes, decimal, count_by}
 use Rattle.mmt_model.specs.declared.programmes.FlowChoice.{FlowChoice}
 use Rattle.mmt_model.specs.declared.programmes.Params.{Params}
 use Rattle.mmt_model.specs.Packets.{Heard, Payload}
@@ -9,7 +9,7 @@ use Rattle.mmt_tlv.specs.Framing.{Packet}
 use Rattle.mmt_packet.specs.Spelling.{Value as Mmtp}
 use Rattle.mmt_pool.specs.Holding.{is_kept_kind}
 use Rattle.mmt_hear.specs.Hearing.{Hearing, hearing}
-use Rattle.mmt_stream.specs.Output.{Output, nothing}
+use Rattle.mmt_stream.specs.Output.{nothing}
 use Rattle.mmt_stream.specs.Consuming.{Meaning}
 
 -- a heard packet is put into the buffer where its kind is MPU or signalling and its payload is not empty

@@ -1,4 +1,4 @@
-use Rattle.std.proofs.Common.{◌≡◌, ◌≢◌, refl, sym, ◌∙◌, arith}
+use Rattle.std.proofs.Common.{refl, sym, ◌∙◌, arith}
 use Rattle.mmt_hear.specs.Hearing.{compressed_bodies}
 use Rattle.mmt_hear.proofs.PacketTypes.{ip4_is, ip6_is, ctx_is, signal_is, null_is, other_is, heard_as}
 use Rattle.mmt_hear.proofs.hearer.Hearer.hear.Goals as goal

@@ -1,4 +1,4 @@
-use Rattle.std.proofs.Common.{◌≡◌, ℕ, List, [], map, refl, ap, ◌∙◌}
+use Rattle.std.proofs.Common.{map, refl, ap}
 use Rattle.mmt_model.specs.Keeping.{kept, peak}
 use Rattle.mmt_pool.specs.Holding.{Holding}
 use Rattle.mmt_peak.specs.Buffers.{shown}

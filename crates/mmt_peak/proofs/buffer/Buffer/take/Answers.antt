@@ -1,9 +1,9 @@
-use Rattle.std.proofs.Common.{◌≡◌, ℕ, true, List, ◌∷◌, refl, sym, ap, subst, ◌∙◌}
+use Rattle.std.proofs.Common.{◌≡◌, true, refl, sym, ◌∙◌}
 use Rattle.mmt_packet.specs.Spelling.{view}
 use Rattle.mmt_model.specs.Keeping.{Outcome, kept_after}
 use Rattle.mmt_model.specs.Packets.{Heard}
 use Rattle.mmt_peak.specs.Peaking.{offered, is_offered}
-use Rattle.mmt_peak.specs.Buffers.{BufferState, HasTaken}
+use Rattle.mmt_peak.specs.Buffers.{HasTaken}
 use Rattle.mmt_peak.specs.Views.{tick_in, tally_in}
 use Rattle.mmt_peak.proofs.Steps.{taken_so, passed_by, peak_stays}
 use Rattle.mmt_peak.proofs.Stores.{bound_stays, becomes}

@@ -1,6 +1,6 @@
-use Rattle.std.proofs.Common.{◌≡◌, ℕ, List, [], sym, subst, ◌∙◌}
+use Rattle.std.proofs.Common.{◌≡◌, ℕ, List, [], subst, ◌∙◌}
 use Rattle.mmt_model.specs.Delivery.{newest_first}
-use Rattle.mmt_stream.specs.Output.{Output, nothing}
+use Rattle.mmt_stream.specs.Output.{nothing}
 use Rattle.mmt_stream.specs.Consuming.{EmitsStart}
 use Rattle.mmt_peak.specs.Peaking.{line_after}
 use Rattle.mmt_peak.proofs.Ends.{stops, fails}
