@@ -1,0 +1,4 @@
+pub mod CountedItems
+pub mod Variants
+pub mod ItemSteps
+pub mod CountedSteps

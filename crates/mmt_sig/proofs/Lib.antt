@@ -1,0 +1,6 @@
+pub mod MessageSteps
+pub mod Bits
+pub mod PayloadLaw
+pub mod TableSteps
+pub mod MessageLaw
+pub mod Written

@@ -1,0 +1,10 @@
+pub mod Payload
+pub mod PayloadReading
+pub mod Left
+pub mod View
+pub mod Tables
+pub mod Message
+pub mod MessageReading
+pub mod TablesLeft
+pub mod TableView
+pub mod MessageView
