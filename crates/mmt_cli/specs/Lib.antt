@@ -3,6 +3,8 @@ pub mod Line
 pub mod Listing
 pub mod ListingGrows
 pub mod Moments
+pub mod Numbers
+pub mod Peaks
 pub mod Promise
 pub mod Statuses
 pub mod Words

@@ -2,7 +2,7 @@
 
 /// The page of help.
 pub const HELP: &str = "\
-mmt: lists a capture of MMT over TLV
+mmt: lists and measures a capture of MMT over TLV
 
 usage: mmt COMMAND, mmt --help, mmt --version
 
@@ -11,6 +11,13 @@ commands:
             PLACE KIND LENGTH, where PLACE counts bytes from 0, KIND is ip4, ip6, ctx, signal, null or
             other- with two hexadecimal digits, and LENGTH is that of the packet's body
             (no options; at most 1099511627776 bytes are read)
+  peak --delay N --window N --bound N
+            reads a stream of TLV packets from standard input, and writes one line at its end of what a receiver's
+            buffer would have held of it: heard N stored N late N repeat N full N refused N peak N
+            --delay   ticks, 1 to 16777215
+            --window  ticks, above the delay and at most 16777216
+            --bound   bytes of payload, 1 to 1073741824
+            (the options in this order; at most 1099511627776 bytes are read)
 
 statuses, and what is printed on standard error after 'mmt: ':
   0         done

@@ -4,6 +4,11 @@
 mod help;
 mod list;
 mod lister;
+mod numbers;
+mod peak;
+#[cfg(test)]
+mod peak_tests;
+mod peak_words;
 mod run;
 mod status;
 #[cfg(test)]

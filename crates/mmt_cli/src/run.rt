@@ -7,6 +7,7 @@ ghost use Rattle.mmt_cli.specs.Promise.{HasCauses, Promises};
 ghost use Rattle.mmt_cli.specs.declared.words.Command.{Command};
 
 use crate::list::ListCommand;
+use crate::peak::peak_within;
 use crate::status::Status;
 use crate::words::{Command, command_of};
 use mmt_io::{Port, Shelf};
@@ -43,6 +44,7 @@ pub fn run_within<P: Port, H: Shelf>(
 {
     match command_of(words) {
         Ok(Command::List) => Status::from(stream(alloc, port, ListCommand::new(alloc), limit)),
+        Ok(Command::Peak { flow, params }) => peak_within(alloc, port, flow, params, limit),
         Err(index) => Status::Usage { index },
     }
 }

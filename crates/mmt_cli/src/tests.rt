@@ -17,7 +17,7 @@ const THREE: [u8; 15] = [
     0x7F, 0x02, 0, 2, 0x60, 0x7F, 0x7F, 0x2A, 0, 1, 0x7F, 0x7F, 0xFE, 0, 0,
 ];
 
-fn words(alloc: Global, texts: &[&str]) -> Result<Vec<String>, AllocError> {
+pub fn words(alloc: Global, texts: &[&str]) -> Result<Vec<String>, AllocError> {
     let mut words = Vec::new(alloc);
     for text in texts {
         words.push(String::from_str(alloc, text)?)?;
@@ -25,7 +25,7 @@ fn words(alloc: Global, texts: &[&str]) -> Result<Vec<String>, AllocError> {
     Ok(words)
 }
 
-fn port(alloc: Global, input: &[u8], failing: &[FailAt]) -> Result<MemoryPort, Fail> {
+pub fn port(alloc: Global, input: &[u8], failing: &[FailAt]) -> Result<MemoryPort, Fail> {
     let input = Vec::from_slice(alloc, input)?;
     let failing = Vec::from_slice(alloc, failing)?;
     Ok(MemoryPort::new(alloc, input, 100, 1000, failing)?)

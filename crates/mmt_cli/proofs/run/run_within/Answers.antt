@@ -1,21 +1,37 @@
 use Rattle.std.proofs.Common.{ap, subst}
 use Rattle.mmt_cli.specs.Commands.{Asks, IsCommand}
-use Rattle.mmt_cli.specs.Moments.{Moment, moment}
-use Rattle.mmt_cli.specs.Promise.{Promises}
+use Rattle.mmt_cli.specs.Moments.{Moment, moment, Faults, faults}
+use Rattle.mmt_cli.specs.Promise.{Promises, HasCauses}
 use Rattle.mmt_cli.specs.Words.{texts}
 use Rattle.mmt_cli.specs.declared.status.Status.TheVariants as status
 use Rattle.mmt_cli.specs.declared.words.Command.TheVariants as command
 use Rattle.mmt_cli.proofs.Listings.{list_lists}
-use Rattle.mmt_cli.proofs.Wrong.{asks_once, only_list, wrong_once}
+use Rattle.mmt_cli.proofs.PeakWords.{asks_once}
+use Rattle.mmt_cli.proofs.Wrong.{wrong_once}
 use Rattle.mmt_cli.proofs.run.run_within.Goals as goal
 
 pub returns-in-Ok-List-clause-promise : goal.returns-in-Ok-List-clause-promise
 returns-in-Ok-List-clause-promise g c = λ told asked asks.
     let old : Moment = moment (g.P.Port.history c.args.port.now) (g.P.Port.left c.args.port.now) (g.P.Port.read_faults c.args.port.now) (g.P.Port.write_faults c.args.port.now) in
     let new : Moment = moment (g.P.Port.history c.stream.new.port) (g.P.Port.left c.stream.new.port) (g.P.Port.read_faults c.stream.new.port) (g.P.Port.write_faults c.stream.new.port) in
-    let list : Asks command.List (texts c.args.words.now) = subst (λ k. Asks k (texts c.args.words.now)) (only_list c.in-Ok-List.field-0) c.in-Ok-List.ensures.command in
+    let list : Asks command.List (texts c.args.words.now) = subst (λ k. Asks k (texts c.args.words.now)) c.in-Ok-List.field-0-is c.in-Ok-List.ensures.command in
     subst (λ k. Promises k c.args.limit c.from.result old new) (asks_once command.List asked (texts c.args.words.now) list asks)
     (list_lists c.args.limit c.stream.result c.from.result old new c.from.ensures (c.stream.ensures.does told))
+
+pub returns-in-Ok-Peak-clause-promise : goal.returns-in-Ok-Peak-clause-promise
+returns-in-Ok-Peak-clause-promise g c = λ told asked asks.
+    let old : Moment = moment (g.P.Port.history c.args.port.now) (g.P.Port.left c.args.port.now) (g.P.Port.read_faults c.args.port.now) (g.P.Port.write_faults c.args.port.now) in
+    let new : Moment = moment (g.P.Port.history c.peak_within.new.port) (g.P.Port.left c.peak_within.new.port) (g.P.Port.read_faults c.peak_within.new.port) (g.P.Port.write_faults c.peak_within.new.port) in
+    let peak : Asks (command.Peak c.in-Ok-Peak.flow c.in-Ok-Peak.params) (texts c.args.words.now) = subst (λ k. Asks k (texts c.args.words.now)) c.in-Ok-Peak.field-0-is c.in-Ok-Peak.ensures.command in
+    subst (λ k. Promises k c.args.limit c.peak_within.result old new) (asks_once (command.Peak c.in-Ok-Peak.flow c.in-Ok-Peak.params) asked (texts c.args.words.now) peak asks) (c.peak_within.ensures.peaks told)
+
+pub returns-in-Ok-Peak-clause-causes : goal.returns-in-Ok-Peak-clause-causes
+returns-in-Ok-Peak-clause-causes g c = λ asked asks.
+    let old : Faults = faults (g.P.Port.read_faults c.args.port.now) (g.P.Port.write_faults c.args.port.now) (g.H.Shelf.faults c.args.shelf.now) in
+    let new : Faults = faults (g.P.Port.read_faults c.peak_within.new.port) (g.P.Port.write_faults c.peak_within.new.port) (g.H.Shelf.faults c.args.shelf.now) in
+    let peak : Asks (command.Peak c.in-Ok-Peak.flow c.in-Ok-Peak.params) (texts c.args.words.now) = subst (λ k. Asks k (texts c.args.words.now)) c.in-Ok-Peak.field-0-is c.in-Ok-Peak.ensures.command in
+    subst (λ k. HasCauses k c.peak_within.result old new) (asks_once (command.Peak c.in-Ok-Peak.flow c.in-Ok-Peak.params) asked (texts c.args.words.now) peak asks)
+    (c.peak_within.ensures.read_fault, c.peak_within.ensures.write_fault)
 
 pub returns-in-Err-clause-only_usage : goal.returns-in-Err-clause-only_usage
 returns-in-Err-clause-only_usage g c = λ index wrong. ap (λ i. status.Usage i) (wrong_once IsCommand (texts c.args.words.now) c.in-Err.index index c.in-Err.ensures.wrong wrong)

@@ -1,7 +1,6 @@
-use Rattle.std.proofs.Common.{◌≡◌, [], ◌∷◌, ◌++◌, ap}
-use Rattle.mmt_stream.specs.Output.{Output}
+use Rattle.std.proofs.Common.{[], ◌∷◌, ◌++◌, ap}
 use Rattle.mmt_stream.proofs.Consumers.{text, gathers, stops}
-use Rattle.mmt_cli.specs.Line.{line_of, lines}
+use Rattle.mmt_cli.specs.Line.{line_of}
 use Rattle.mmt_cli.specs.Listing.{listed}
 use Rattle.mmt_cli.specs.ListingGrows.{listing_grows}
 use Rattle.mmt_cli.proofs.Listings.{lines_next}
