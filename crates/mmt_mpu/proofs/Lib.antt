@@ -1,0 +1,4 @@
+pub mod Walk
+pub mod Law
+pub mod Calls
+pub mod Written
