@@ -1,5 +1,4 @@
 pub mod Commands
-pub mod Line
 pub mod Listing
 pub mod ListingGrows
 pub mod Moments

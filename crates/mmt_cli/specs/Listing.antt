@@ -6,7 +6,7 @@ use Rattle.mmt_stream.specs.Output.{Output}
 use Rattle.mmt_stream.specs.Consuming.{Meaning}
 use Rattle.mmt_stream.specs.Streaming.{Does}
 use Rattle.mmt_stream.specs.declared.end.StreamEnd.{StreamEnd}
-use Rattle.mmt_cli.specs.Line.{lines}
+use Rattle.mmt_list.specs.Line.{lines}
 use Rattle.mmt_cli.specs.Moments.{Moment}
 use Rattle.mmt_cli.specs.Statuses.{status_of}
 use Rattle.mmt_cli.specs.declared.status.Status.{Status}

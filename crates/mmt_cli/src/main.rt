@@ -3,7 +3,6 @@
 
 mod help;
 mod list;
-mod lister;
 mod numbers;
 mod peak;
 #[cfg(test)]

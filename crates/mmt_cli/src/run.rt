@@ -6,12 +6,11 @@ ghost use Rattle.mmt_cli.specs.Moments.{moment, faults};
 ghost use Rattle.mmt_cli.specs.Promise.{HasCauses, Promises};
 ghost use Rattle.mmt_cli.specs.declared.words.Command.{Command};
 
-use crate::list::ListCommand;
+use crate::list::list_within;
 use crate::peak::peak_within;
 use crate::status::Status;
 use crate::words::{Command, command_of};
 use mmt_io::{Port, Shelf};
-use mmt_stream::stream;
 use std::alloc::Global;
 
 /// Does what the words ask, over a port and a shelf, and reads at most `limit` bytes and one more.
@@ -43,7 +42,7 @@ pub fn run_within<P: Port, H: Shelf>(
         (P.write_faults port.new)) }
 {
     match command_of(words) {
-        Ok(Command::List) => Status::from(stream(alloc, port, ListCommand::new(alloc), limit)),
+        Ok(Command::List) => list_within(alloc, port, limit),
         Ok(Command::Peak { flow, params }) => peak_within(alloc, port, flow, params, limit),
         Err(index) => Status::Usage { index },
     }

@@ -58,7 +58,8 @@ const KINDS: [u8; 28] = [
 #[test]
 fn lists_streams(rt: HostRuntime) -> Result<(), Fail> {
     let lost: &[u8] = &[0x7F, 0xFF, 0, 0, 0x47];
-    let kinds = "0 ip4 1\n5 ip6 0\n9 ctx 0\n13 signal 2\n19 null 0\n23 other-a0 1\n";
+    let kinds =
+        "0 ip4 1\n5 ip6 0 | refused 9 ip-short\n9 ctx 0 | refused 13 ctx-short\n13 signal 2\n19 null 0\n23 other-a0 1\n";
     let table: [(&[u8], u64, Status, &str); 9] = [
         (&NULL, LIMIT, Status::Done, "0 null 0\n"),
         (&[], LIMIT, Status::Done, ""),
@@ -93,7 +94,10 @@ fn fails_with_each_call(rt: HostRuntime) -> Result<(), Fail> {
     let mut input = Vec::from_slice(alloc, &NULL)?;
     input.extend_from_slice(&[0x7F, 0x03, 0xFF, 0xFF])?;
     input.extend_from_slice(&[0; 65_535])?;
-    let (one, both) = ("0 null 0\n", "0 null 0\n4 ctx 65535\n");
+    let (one, both) = (
+        "0 null 0\n",
+        "0 null 0\n4 ctx 65535 | refused 10 ctx-kind 0\n",
+    );
     let table = [
         (CallKind::Read, 0, 0, Status::ReadFault, ""),
         (CallKind::Read, 1, 0, Status::ReadFault, one),
@@ -186,7 +190,7 @@ fn lists_the_same_in_any_pieces(rt: HostRuntime) -> Result<(), Fail> {
             Status::Done,
             "cut at {cut}"
         );
-        let lines = b"0 ip6 2\n6 other-2a 1\n11 signal 0\n".as_slice();
+        let lines = b"0 ip6 2 | refused 4 ip-short\n6 other-2a 1\n11 signal 0\n".as_slice();
         assert_eq!(rt; port.written.as_slice(), lines, "cut at {cut}");
     }
     Ok(())

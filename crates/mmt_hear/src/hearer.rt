@@ -79,8 +79,8 @@ fn datagram<'a>(flow: &FlowChoice, body: &'a [u8]) -> Heard<'a>
     }
 }
 
-// The packet type and the body of a whole TLV packet.
-fn opened(tlv: &[u8]) -> (u8, &[u8])
+/// The packet type and the body of a whole TLV packet (ARIB STD-B32 Part 3, the TLV packet).
+pub fn opened(tlv: &[u8]) -> (u8, &[u8])
     requires { IsPacket tlv.now }
     ensures short { length result.1.now < 2 ^ 16 }
     ensures packet { (packet : Tlv) → Fits packet → tlv.now ≡ spelling packet → packet ≡ record { kind = result.0; body = result.1.now } }

@@ -5,7 +5,8 @@ mod hearer;
 mod reasons;
 mod why;
 
-pub use hearer::{Heard, Hearer};
+pub use hearer::{Heard, Hearer, opened};
+pub use reasons::{ctx_reason, ip_reason, mmtp_reason};
 pub use why::Why;
 
 #[cfg(test)]

@@ -8,7 +8,8 @@ use mmt_ctx::CtxWhy;
 use mmt_ip::IpWhy;
 use mmt_packet::PacketWhy;
 
-pub(crate) fn ip_reason(why: IpWhy) -> Why
+/// The refusal of an IPv6 or UDP layer as one of hearing.
+pub fn ip_reason(why: IpWhy) -> Why
     ensures { result ≡ of_ip why }
 {
     match why {
@@ -20,7 +21,8 @@ pub(crate) fn ip_reason(why: IpWhy) -> Why
     }
 }
 
-pub(crate) fn ctx_reason(why: CtxWhy) -> Why
+/// The refusal of a header-compressed packet as one of hearing.
+pub fn ctx_reason(why: CtxWhy) -> Why
     ensures { result ≡ of_ctx why }
 {
     match why {
@@ -32,7 +34,8 @@ pub(crate) fn ctx_reason(why: CtxWhy) -> Why
     }
 }
 
-pub(crate) fn mmtp_reason(why: PacketWhy) -> Why
+/// The refusal of an MMTP packet as one of hearing.
+pub fn mmtp_reason(why: PacketWhy) -> Why
     ensures { result ≡ of_mmtp why }
 {
     match why {

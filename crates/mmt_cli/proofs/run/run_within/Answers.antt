@@ -5,7 +5,6 @@ use Rattle.mmt_cli.specs.Promise.{Promises, HasCauses}
 use Rattle.mmt_cli.specs.Words.{texts}
 use Rattle.mmt_cli.specs.declared.status.Status.TheVariants as status
 use Rattle.mmt_cli.specs.declared.words.Command.TheVariants as command
-use Rattle.mmt_cli.proofs.Listings.{list_lists}
 use Rattle.mmt_cli.proofs.PeakWords.{asks_once}
 use Rattle.mmt_cli.proofs.Wrong.{wrong_once}
 use Rattle.mmt_cli.proofs.run.run_within.Goals as goal
@@ -13,10 +12,17 @@ use Rattle.mmt_cli.proofs.run.run_within.Goals as goal
 pub returns-in-Ok-List-clause-promise : goal.returns-in-Ok-List-clause-promise
 returns-in-Ok-List-clause-promise g c = λ told asked asks.
     let old : Moment = moment (g.P.Port.history c.args.port.now) (g.P.Port.left c.args.port.now) (g.P.Port.read_faults c.args.port.now) (g.P.Port.write_faults c.args.port.now) in
-    let new : Moment = moment (g.P.Port.history c.stream.new.port) (g.P.Port.left c.stream.new.port) (g.P.Port.read_faults c.stream.new.port) (g.P.Port.write_faults c.stream.new.port) in
+    let new : Moment = moment (g.P.Port.history c.list_within.new.port) (g.P.Port.left c.list_within.new.port) (g.P.Port.read_faults c.list_within.new.port) (g.P.Port.write_faults c.list_within.new.port) in
     let list : Asks command.List (texts c.args.words.now) = subst (λ k. Asks k (texts c.args.words.now)) c.in-Ok-List.field-0-is c.in-Ok-List.ensures.command in
-    subst (λ k. Promises k c.args.limit c.from.result old new) (asks_once command.List asked (texts c.args.words.now) list asks)
-    (list_lists c.args.limit c.stream.result c.from.result old new c.from.ensures (c.stream.ensures.does told))
+    subst (λ k. Promises k c.args.limit c.list_within.result old new) (asks_once command.List asked (texts c.args.words.now) list asks) (c.list_within.ensures.lists told)
+
+pub returns-in-Ok-List-clause-causes : goal.returns-in-Ok-List-clause-causes
+returns-in-Ok-List-clause-causes g c = λ asked asks.
+    let old : Faults = faults (g.P.Port.read_faults c.args.port.now) (g.P.Port.write_faults c.args.port.now) (g.H.Shelf.faults c.args.shelf.now) in
+    let new : Faults = faults (g.P.Port.read_faults c.list_within.new.port) (g.P.Port.write_faults c.list_within.new.port) (g.H.Shelf.faults c.args.shelf.now) in
+    let list : Asks command.List (texts c.args.words.now) = subst (λ k. Asks k (texts c.args.words.now)) c.in-Ok-List.field-0-is c.in-Ok-List.ensures.command in
+    subst (λ k. HasCauses k c.list_within.result old new) (asks_once command.List asked (texts c.args.words.now) list asks)
+    (c.list_within.ensures.read_fault, c.list_within.ensures.write_fault)
 
 pub returns-in-Ok-Peak-clause-promise : goal.returns-in-Ok-Peak-clause-promise
 returns-in-Ok-Peak-clause-promise g c = λ told asked asks.

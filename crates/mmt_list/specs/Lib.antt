@@ -1,0 +1,4 @@
+pub mod Left
+pub mod Line
+pub mod Text
+pub mod Words
