@@ -1,3 +1,4 @@
+pub mod FlowTexts
 pub mod Listings
 pub mod Peaked
 pub mod PeakWords

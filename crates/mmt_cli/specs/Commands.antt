@@ -1,7 +1,9 @@
 -- The commands, by their words.
 use Rattle.std.specs.Prelude.{◌≡◌, ℕ, ◌<◌, ◌≤◌, ◌^◌, List, [], ◌∷◌, codes, decimal}
+use Rattle.mmt_model.specs.declared.programmes.FlowChoice.{FlowChoice}
 use Rattle.mmt_model.specs.declared.programmes.FlowChoice.TheVariants as flow
 use Rattle.mmt_model.specs.declared.programmes.Params.{Params}
+use Rattle.mmt_cli.specs.Flows.{flow_text, HasFlowRange}
 use Rattle.mmt_cli.specs.declared.words.Command.{Command}
 use Rattle.mmt_cli.specs.declared.words.Command.TheVariants as command
 
@@ -17,10 +19,20 @@ pub record HasRanges (r : Params) : Type 0 where
   pub bound_low : 1 ≤ r.bound
   pub bound_high : r.bound ≤ 2 ^ 30
 
+-- the words that choose a flow: none, or the option with the flow's text
+abbrev pub flow_words : FlowChoice → List (List ℕ)
+flow_words flow.Any = []
+flow_words (flow.One f) = codes "--flow" ∷ flow_text f ∷ []
+
+-- a flow that is chosen has its ranges
+abbrev pub HasChoiceRange : FlowChoice → Type 0
+HasChoiceRange flow.Any = Unit {0}
+HasChoiceRange (flow.One f) = HasFlowRange f
+
 -- the words are this command
 abbrev pub Asks : Command → List (List ℕ) → Type 0
 Asks command.List words = words ≡ codes "list" ∷ []
-Asks (command.Peak choice params) words = (words ≡ peak_words params []) × (choice ≡ flow.Any) × HasRanges params
+Asks (command.Peak choice params) words = (words ≡ peak_words params (flow_words choice)) × HasRanges params × HasChoiceRange choice
 
 -- the words are some command
 abbrev pub IsCommand : List (List ℕ) → Type 0

@@ -1,4 +1,5 @@
 pub mod Commands
+pub mod Flows
 pub mod Listing
 pub mod ListingGrows
 pub mod Moments

@@ -13,12 +13,14 @@ commands:
             behind ' | ', what IPv6, header-compressed IP, NTP, MMTP and MPU payloads in it say, or the first
             refusal: refused PLACE WORD NUMBERS
             (no options; at most 1099511627776 bytes are read)
-  peak --delay N --window N --bound N
+  peak --delay N --window N --bound N [--flow ADDRESS:PORT]
             reads a stream of TLV packets from standard input, and writes one line at its end of what a receiver's
             buffer would have held of it: heard N stored N late N repeat N full N refused N peak N
             --delay   ticks, 1 to 16777215
             --window  ticks, above the delay and at most 16777216
             --bound   bytes of payload, 1 to 1073741824
+            --flow    hears this flow alone: the destination's IPv6 address in 32 hexadecimal digits, 0-9 and a-f,
+                      and its port, 1 to 65535 and not 123, in decimal digits
             (the options in this order; at most 1099511627776 bytes are read)
 
 statuses, and what is printed on standard error after 'mmt: ':

@@ -1,6 +1,7 @@
 //! The program `mmt`.
 #![tactic(auto)]
 
+mod flows;
 mod help;
 mod list;
 mod numbers;

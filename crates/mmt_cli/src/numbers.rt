@@ -5,22 +5,30 @@ ghost use Rattle.mmt_cli.specs.Numbers.{NoOption};
 
 use itoa::Buffer;
 
+/// Whether a text is this one.
+pub fn text_is(text: &str, other: &str) -> bool
+    ensures yes { IsTrue result → text.now ≡ other.now }
+    ensures no { IsFalse result → text.now ≢ other.now }
+{
+    text == other
+}
+
 /// Whether a word has this text.
 pub fn word_is(word: &String, text: &str) -> bool
     ensures yes { IsTrue result → string_bytes word.now ≡ text.now }
     ensures no { IsFalse result → string_bytes word.now ≢ text.now }
 {
-    word.as_str() == text
+    text_is(word.as_str(), text)
 }
 
-/// The number from `low` to `high` that a word is: decimal digits with no sign, and with no zero
+/// The number from `low` to `high` that a text is: decimal digits with no sign, and with no zero
 /// before another digit.
-pub fn number_of(word: &String, low: u32, high: u32) -> Option<u32>
-    ensures word { IfSome result (λ n. string_bytes word.now ≡ decimal n) }
+pub fn number_in(text: &str, low: u32, high: u32) -> Option<u32>
+    ensures word { IfSome result (λ n. text.now ≡ decimal n) }
     ensures range { IfSome result (λ n. (low ≤ n) × (n ≤ high)) }
-    ensures none { IfNone result ((n : ℕ) → low ≤ n → n ≤ high → string_bytes word.now ≢ decimal n) }
+    ensures none { IfNone result ((n : ℕ) → low ≤ n → n ≤ high → text.now ≢ decimal n) }
 {
-    let number = match word.as_str().parse::<u32>() {
+    let number = match text.parse::<u32>() {
         Ok(number) => number,
         Err(_) => return None,
     };
@@ -28,11 +36,20 @@ pub fn number_of(word: &String, low: u32, high: u32) -> Option<u32>
         return None;
     }
     let mut digits = Buffer::new();
-    if word_is(word, digits.format(number)) {
+    if text_is(text, digits.format(number)) {
         Some(number)
     } else {
         None
     }
+}
+
+/// The same of a word.
+pub fn number_of(word: &String, low: u32, high: u32) -> Option<u32>
+    ensures word { IfSome result (λ n. string_bytes word.now ≡ decimal n) }
+    ensures range { IfSome result (λ n. (low ≤ n) × (n ≤ high)) }
+    ensures none { IfNone result ((n : ℕ) → low ≤ n → n ≤ high → string_bytes word.now ≢ decimal n) }
+{
+    number_in(word.as_str(), low, high)
 }
 
 /// Whether the word at a place has this text.

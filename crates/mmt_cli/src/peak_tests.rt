@@ -54,6 +54,21 @@ fn counts_what_a_buffer_holds(rt: HostRuntime) -> Result<(), Fail> {
     ];
     let line = "heard 6 stored 3 late 1 repeat 1 full 1 refused 1 peak 35\n";
     assert!(rt; peaks(alloc, &words, &input, line)?);
+    let mut one = [
+        "peak",
+        "--delay",
+        "300",
+        "--window",
+        "1000",
+        "--bound",
+        "35",
+        "--flow",
+        "ff0e0000000000000000000000000101:51300",
+    ];
+    assert!(rt; peaks(alloc, &one, &input, line)?);
+    one[8] = "ff0e0000000000000000000000000101:51301";
+    let unheard = "heard 0 stored 0 late 0 repeat 0 full 0 refused 0 peak 0\n";
+    assert!(rt; peaks(alloc, &one, &input, unheard)?);
     let least = ["peak", "--delay", "1", "--window", "2", "--bound", "1"];
     let none = "heard 0 stored 0 late 0 repeat 0 full 0 refused 0 peak 0\n";
     assert!(rt; peaks(alloc, &least, &[], none)?);
@@ -71,7 +86,7 @@ fn counts_what_a_buffer_holds(rt: HostRuntime) -> Result<(), Fail> {
 }
 
 // Words with blanks between them, and the place of the first wrong one.
-const WRONG: [(&str, u32); 27] = [
+const WRONG: [(&str, u32); 37] = [
     ("peaks", 0),
     ("Peak", 0),
     ("peak", 1),
@@ -99,6 +114,40 @@ const WRONG: [(&str, u32); 27] = [
     ("peak --delay 5 --window 6 --bound 1 x", 7),
     ("peak --delay 1 --window 2 --bound 1 --bound 1", 7),
     ("peak --delay 5 --window 0 --bound 0", 4),
+    ("peak --delay 5 --window 6 --bound 1 x 1", 7),
+    ("peak --delay 5 --window 6 --bound 1 --flow", 8),
+    (
+        "peak --delay 5 --window 6 --bound 1 --flow ff0e0000000000000000000000000101",
+        8,
+    ),
+    (
+        "peak --delay 5 --window 6 --bound 1 --flow FF0e0000000000000000000000000101:1",
+        8,
+    ),
+    (
+        "peak --delay 5 --window 6 --bound 1 --flow ff0e000000000000000000000000101:1",
+        8,
+    ),
+    (
+        "peak --delay 5 --window 6 --bound 1 --flow ff0e0000000000000000000000000101:0",
+        8,
+    ),
+    (
+        "peak --delay 5 --window 6 --bound 1 --flow ff0e0000000000000000000000000101:123",
+        8,
+    ),
+    (
+        "peak --delay 5 --window 6 --bound 1 --flow ff0e0000000000000000000000000101:65536",
+        8,
+    ),
+    (
+        "peak --delay 5 --window 6 --bound 1 --flow ff0e0000000000000000000000000101:00080",
+        8,
+    ),
+    (
+        "peak --delay 5 --window 6 --bound 1 --flow ff0e0000000000000000000000000101:1 1",
+        9,
+    ),
 ];
 
 #[test]

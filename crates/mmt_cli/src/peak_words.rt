@@ -3,9 +3,10 @@ ghost use Rattle.std.specs.Prelude.{◌≡◌, ◌∷◌, drop, codes, IfOk, IfE
 ghost use Rattle.mmt_cli.specs.Words.{texts, IsWrongAt};
 ghost use Rattle.mmt_cli.specs.Commands.{Asks, IsCommand};
 
+use crate::flows::choice_of;
 use crate::numbers::option_at;
 use crate::words::Command;
-use mmt_model::{FlowChoice, Params};
+use mmt_model::Params;
 
 /// The command that words are which begin with `peak`, or the index of the first wrong one.
 pub fn peak_of(words: &[String]) -> Result<Command, u32>
@@ -16,11 +17,9 @@ pub fn peak_of(words: &[String]) -> Result<Command, u32>
     let delay = option_at(words, 1, "--delay", 1, (1 << 24) - 1)?;
     let window = option_at(words, 3, "--window", delay + 1, 1 << 24)?;
     let bound = option_at(words, 5, "--bound", 1, 1 << 30)?;
-    if words.len() > 7 {
-        return Err(7);
-    }
+    let flow = choice_of(words)?;
     Ok(Command::Peak {
-        flow: FlowChoice::Any,
+        flow,
         params: Params {
             bound,
             window,

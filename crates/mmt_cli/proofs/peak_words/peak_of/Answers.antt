@@ -4,7 +4,7 @@ use Rattle.std.proofs.lemmas.Result.{err_from_is_err_and}
 use Rattle.mmt_model.specs.declared.programmes.Params.{Params}
 use Rattle.mmt_cli.specs.Words.{texts, IsWrongAt}
 use Rattle.mmt_cli.specs.Commands.{IsCommand}
-use Rattle.mmt_cli.proofs.PeakWords.{no_delay, no_window, no_bound, after_bound, some_behind}
+use Rattle.mmt_cli.proofs.PeakWords.{no_delay, no_window, no_bound, no_flow}
 use Rattle.mmt_cli.proofs.peak_words.peak_of.Goals as goal
 
 pub returns-in_err-delay-clause-wrong : goal.returns-in_err-delay-clause-wrong
@@ -30,14 +30,14 @@ returns-in_err-bound-clause-wrong c =
     (no_bound c.in_ok-delay.delay c.in_ok-window.window (drop 5 (texts c.args.words.now)) c.in_err-bound.field-0.0
     (record { delay = r.0; window_low = omega arith; window_high = omega arith; bound_low = omega arith; bound_high = omega arith }) c.in_err-bound.ensures.wrong))
 
-pub returns-then-words-gt7-clause-wrong : goal.returns-then-words-gt7-clause-wrong
-returns-then-words-gt7-clause-wrong c =
+pub returns-in_err-flow-clause-wrong : goal.returns-in_err-flow-clause-wrong
+returns-in_err-flow-clause-wrong c =
+    let t = err_from_is_err_and c.from_residual-in_err-flow.result c.from_residual-in_err-flow.ensures.1 in
     let r = c.in_ok-delay.ensures.range in
     let s = c.in_ok-window.ensures.range in
     let b = c.in_ok-bound.ensures.range in
     let params : Params = record { bound = c.in_ok-bound.bound; window = c.in_ok-window.window; delay = c.in_ok-delay.delay } in
     let e = c.requires ∙ (ap (λ x. codes "peak" ∷ x) c.in_ok-delay.ensures.words ∙ (ap (λ x. codes "peak" ∷ codes "--delay" ∷ decimal c.in_ok-delay.delay ∷ x) c.in_ok-window.ensures.words
     ∙ ap (λ x. codes "peak" ∷ codes "--delay" ∷ decimal c.in_ok-delay.delay ∷ codes "--window" ∷ decimal c.in_ok-window.window ∷ x) c.in_ok-bound.ensures.words)) in
-    subst (λ t. IsWrongAt IsCommand t 7) (sym e)
-    (after_bound params (drop 7 (texts c.args.words.now)) (record { delay = r.0; window_low = omega arith; window_high = s.1; bound_low = b.0; bound_high = b.1 })
-    (some_behind c.args.words.now params (drop 7 (texts c.args.words.now)) e c.if-words-gt7.true))
+    rw (t.1, t.2) (subst (λ t. IsWrongAt IsCommand t c.in_err-flow.field-0.0) (sym e)
+    (no_flow params (drop 7 (texts c.args.words.now)) c.in_err-flow.field-0.0 (record { delay = r.0; window_low = omega arith; window_high = s.1; bound_low = b.0; bound_high = b.1 }) c.in_err-flow.ensures.wrong))
