@@ -29,6 +29,19 @@ fn add(out: &mut Vec<u8>, first: u8, time: u16, number: u8, size: u8) -> Result<
     Ok(())
 }
 
+// Words that hear the flow of `HEADERS` alone.
+const ONE: [&str; 9] = [
+    "peak",
+    "--delay",
+    "300",
+    "--window",
+    "1000",
+    "--bound",
+    "35",
+    "--flow",
+    "ff0e0000000000000000000000000101:51300",
+];
+
 // What `peak` answers and writes.
 fn peaks(alloc: Global, texts: &[&str], input: &[u8], line: &str) -> Result<bool, Fail> {
     let words = words(alloc, texts)?;
@@ -54,17 +67,7 @@ fn counts_what_a_buffer_holds(rt: HostRuntime) -> Result<(), Fail> {
     ];
     let line = "heard 6 stored 3 late 1 repeat 1 full 1 refused 1 peak 35\n";
     assert!(rt; peaks(alloc, &words, &input, line)?);
-    let mut one = [
-        "peak",
-        "--delay",
-        "300",
-        "--window",
-        "1000",
-        "--bound",
-        "35",
-        "--flow",
-        "ff0e0000000000000000000000000101:51300",
-    ];
+    let mut one = ONE;
     assert!(rt; peaks(alloc, &one, &input, line)?);
     one[8] = "ff0e0000000000000000000000000101:51301";
     let unheard = "heard 0 stored 0 late 0 repeat 0 full 0 refused 0 peak 0\n";
