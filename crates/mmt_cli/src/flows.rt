@@ -9,6 +9,9 @@ ghost use Rattle.mmt_cli.specs.Commands.{flow_words, HasChoiceRange};
 use crate::numbers::{is_at, number_in};
 use mmt_model::{Flow, FlowChoice};
 
+// The port of NTP (RFC 5905).
+const NTP_PORT: u32 = 123;
+
 // The number whose hexadecimal digit a byte is, 0-9 or a-f.
 fn digit_of(byte: u8) -> Option<u8>
     ensures some { IfSome result (λ d. (d < 16) × (byte ≡ digit_glyph false d)) }
@@ -60,7 +63,7 @@ pub fn flow_of(word: &str) -> Option<Flow>
         Some(port) => port,
         None => return None,
     };
-    if port == 123 {
+    if port == NTP_PORT {
         return None;
     }
     Some(Flow {

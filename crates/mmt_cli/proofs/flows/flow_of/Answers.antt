@@ -28,11 +28,11 @@ pub returns-in-None-number_in-clause-none : goal.returns-in-None-number_in-claus
 returns-in-None-number_in-clause-none c = λ f range is.
     c.in-None-number_in.ensures.none f.port range.port_low (omega arith) (c.range_from.ensures.value ∙ (ap (λ x. drop 33 x) is ∙ port_of f))
 
-pub returns-then-port-eq123-clause-none : goal.returns-then-port-eq123-clause-none
-returns-then-port-eq123-clause-none c = λ f range is.
+pub returns-then-port-eq-NTP_PORT-clause-none : goal.returns-then-port-eq-NTP_PORT-clause-none
+returns-then-port-eq-NTP_PORT-clause-none c = λ f range is.
     let e : decimal c.in-Some-number_in.port ≡ decimal f.port = sym c.in-Some-number_in.ensures.word ∙ (c.range_from.ensures.value ∙ (ap (λ x. drop 33 x) is ∙ port_of f)) in
     let s : c.in-Some-number_in.port ≡ f.port = decimal_injective c.in-Some-number_in.port f.port (omega arith) (omega arith) e in
-    range.not_ntp (sym s ∙ c.if-port-eq123.true)
+    range.not_ntp (sym s ∙ c.if-port-eq-NTP_PORT.true)
 
 pub returns-clause-some : goal.returns-clause-some
 returns-clause-some c =
