@@ -1,7 +1,7 @@
 #!/bin/bash
 # bench/list.sh YARDSTICK.rs
 # Compares `mmt list` with a yardstick in plain Rust, which reads a stream of TLV packets from standard
-# input and writes the same lines: both run three times in turn over one stream of 500 MB in packets of
+# input and writes the same lines: both run three times in turn over one stream of 500 MB in null packets of
 # 1,400 bytes, with output to /dev/null. Prints the median of each one's user times, and their ratio.
 set -eu
 here=$(cd "$(dirname "$0")/.." && pwd)
@@ -12,7 +12,7 @@ rustc -O "$1" -o "$folder/yardstick"
 "$here/mmt" --version >/dev/null
 python3 - "$folder/stream" <<'PYTHON'
 import sys
-packet = bytes([0x7F, 3, 1396 // 256, 1396 % 256]) + bytes(range(256)) * 5 + bytes(116)
+packet = bytes([0x7F, 0xFF, 1396 // 256, 1396 % 256]) + bytes(range(256)) * 5 + bytes(116)
 with open(sys.argv[1], 'wb') as out:
     for _ in range(500_000_000 // (1400 * 1000)):
         out.write(packet * 1000)
