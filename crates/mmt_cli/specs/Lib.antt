@@ -1,10 +1,6 @@
-pub mod Commands
-pub mod Flows
 pub mod Listing
 pub mod ListingGrows
 pub mod Moments
-pub mod Numbers
 pub mod Peaks
 pub mod Promise
 pub mod Statuses
-pub mod Words

@@ -6,8 +6,8 @@ use Rattle.mmt_cli.specs.Peaks.{Peaks}
 use Rattle.mmt_cli.specs.Moments.{Moment, Faults}
 use Rattle.mmt_cli.specs.declared.status.Status.{Status}
 use Rattle.mmt_cli.specs.declared.status.Status.TheVariants as status
-use Rattle.mmt_cli.specs.declared.words.Command.{Command}
-use Rattle.mmt_cli.specs.declared.words.Command.TheVariants as command
+use Rattle.mmt_command.specs.declared.words.Command.{Command}
+use Rattle.mmt_command.specs.declared.words.Command.TheVariants as command
 
 -- A run of a command that reads the port answers a fault only where the port's count rose.
 abbrev pub HasPortCauses : Status → Faults → Faults → Type 0

@@ -1,19 +1,15 @@
 //! The program `mmt`.
 #![tactic(auto)]
 
-mod flows;
 mod help;
 mod list;
-mod numbers;
 mod peak;
 #[cfg(test)]
 mod peak_tests;
-mod peak_words;
 mod run;
 mod status;
 #[cfg(test)]
 mod tests;
-mod words;
 
 use mmt_io::{MemoryShelf, Port, RealPort};
 use run::run;

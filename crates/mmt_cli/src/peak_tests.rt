@@ -1,4 +1,4 @@
-//! The command `peak` over ports in memory, and its wrong words.
+//! The command `peak` over ports in memory.
 
 use crate::run::run;
 use crate::status::Status;
@@ -85,87 +85,5 @@ fn counts_what_a_buffer_holds(rt: HostRuntime) -> Result<(), Fail> {
         "1073741824",
     ];
     assert!(rt; peaks(alloc, &most, &[], none)?);
-    Ok(())
-}
-
-// Words with blanks between them, and the place of the first wrong one.
-const WRONG: [(&str, u32); 37] = [
-    ("peaks", 0),
-    ("Peak", 0),
-    ("peak", 1),
-    ("peak --window", 1),
-    ("peak --delay", 2),
-    ("peak --delay 0", 2),
-    ("peak --delay 01", 2),
-    ("peak --delay +1", 2),
-    ("peak --delay -1", 2),
-    ("peak --delay 0x1", 2),
-    ("peak --delay 16777216", 2),
-    ("peak --delay 4294967297", 2),
-    ("peak --delay 5", 3),
-    ("peak --delay 5 --bound", 3),
-    ("peak --delay 5 --window", 4),
-    ("peak --delay 5 --window 5", 4),
-    ("peak --delay 5 --window 06", 4),
-    ("peak --delay 5 --window 16777217", 4),
-    ("peak --delay 5 --window 6", 5),
-    ("peak --delay 5 --window 6 --Bound 1", 5),
-    ("peak --delay 5 --window 6 --bound", 6),
-    ("peak --delay 5 --window 6 --bound 0", 6),
-    ("peak --delay 5 --window 6 --bound 1073741825", 6),
-    ("peak --delay 5 --window 6 --bound 1,", 6),
-    ("peak --delay 5 --window 6 --bound 1 x", 7),
-    ("peak --delay 1 --window 2 --bound 1 --bound 1", 7),
-    ("peak --delay 5 --window 0 --bound 0", 4),
-    ("peak --delay 5 --window 6 --bound 1 x 1", 7),
-    ("peak --delay 5 --window 6 --bound 1 --flow", 8),
-    (
-        "peak --delay 5 --window 6 --bound 1 --flow ff0e0000000000000000000000000101",
-        8,
-    ),
-    (
-        "peak --delay 5 --window 6 --bound 1 --flow FF0e0000000000000000000000000101:1",
-        8,
-    ),
-    (
-        "peak --delay 5 --window 6 --bound 1 --flow ff0e000000000000000000000000101:1",
-        8,
-    ),
-    (
-        "peak --delay 5 --window 6 --bound 1 --flow ff0e0000000000000000000000000101:0",
-        8,
-    ),
-    (
-        "peak --delay 5 --window 6 --bound 1 --flow ff0e0000000000000000000000000101:123",
-        8,
-    ),
-    (
-        "peak --delay 5 --window 6 --bound 1 --flow ff0e0000000000000000000000000101:65536",
-        8,
-    ),
-    (
-        "peak --delay 5 --window 6 --bound 1 --flow ff0e0000000000000000000000000101:00080",
-        8,
-    ),
-    (
-        "peak --delay 5 --window 6 --bound 1 --flow ff0e0000000000000000000000000101:1 1",
-        9,
-    ),
-];
-
-#[test]
-fn refuses_wrong_words_of_peak(rt: HostRuntime) -> Result<(), Fail> {
-    let alloc = rt.alloc();
-    for (text, index) in WRONG {
-        let mut texts = Vec::new(alloc);
-        for word in text.split(' ') {
-            texts.push(String::from_str(alloc, word)?)?;
-        }
-        let mut port = port(alloc, &[], &[])?;
-        let mut shelf = MemoryShelf::new(alloc, Vec::new(alloc));
-        let status = run(alloc, &texts, &mut port, &mut shelf);
-        assert_eq!(rt; status, Status::Usage { index }, "of {text}");
-        assert_eq!(rt; port.written().len(), 0);
-    }
     Ok(())
 }

@@ -1,15 +1,15 @@
 //! The top call: from the words of the command line to the status.
 ghost use Rattle.std.specs.Prelude.{◌≡◌, ℕ, ◌^◌, ◌≤◌, IsTrue};
-ghost use Rattle.mmt_cli.specs.Words.{texts, IsWrongAt};
-ghost use Rattle.mmt_cli.specs.Commands.{Asks, IsCommand};
+ghost use Rattle.mmt_command.specs.Words.{texts, IsWrongAt};
+ghost use Rattle.mmt_command.specs.Commands.{Asks, IsCommand};
 ghost use Rattle.mmt_cli.specs.Moments.{moment, faults};
 ghost use Rattle.mmt_cli.specs.Promise.{HasCauses, Promises};
-ghost use Rattle.mmt_cli.specs.declared.words.Command.{Command};
+ghost use Rattle.mmt_command.specs.declared.words.Command.{Command};
 
 use crate::list::list_within;
 use crate::peak::peak_within;
 use crate::status::Status;
-use crate::words::{Command, command_of};
+use mmt_command::{Command, command_of};
 use mmt_io::{Port, Shelf};
 use std::alloc::Global;
 

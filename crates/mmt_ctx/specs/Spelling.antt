@@ -1,5 +1,5 @@
 -- What a header-compressed IP packet is, and its one spelling (ARIB STD-B32 Part 3, header-compressed IP packet).
-use Rattle.std.specs.Prelude.{ℕ, ◌+◌, ◌*◌, ◌<◌, List, ◌++◌, Option, Some, None, IfSome}
+use Rattle.std.specs.Prelude.{ℕ, ◌+◌, ◌*◌, ◌<◌, Bool, true, false, List, ◌++◌, Option, Some, None, IfSome}
 use Rattle.std.specs.Int.{w8, w16, w32, w128}
 use Rattle.mmt_fields.specs.Reading.{big_endian, optional}
 use Rattle.mmt_ip.specs.declared.packet.Ip6Header.{Ip6Header}
@@ -31,3 +31,8 @@ pub record Fits (v : Value) : Type 0 where
   pub context : v.context < 4096
   pub number : v.number < 16
   pub header : IfSome v.header HeaderFits
+
+-- how many bytes stand before the payload, with a header and without one (ARIB STD-B32 Part 3, header-compressed IP packet)
+abbrev pub head_length : Bool → ℕ
+head_length true = 45
+head_length false = 3

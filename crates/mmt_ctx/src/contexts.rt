@@ -1,6 +1,6 @@
 //! The headers that full headers left, context by context.
 
-ghost use Rattle.std.specs.Prelude.{◌≡◌, ℕ, ◌<◌, ◌≤◌, ◌^◌, List, [], ◌∷◌, None, length, replicate, IfOk, IfErr};
+ghost use Rattle.std.specs.Prelude.{◌≡◌, ℕ, ◌+◌, ◌<◌, ◌≤◌, ◌^◌, List, [], ◌∷◌, None, length, replicate, IfOk, IfErr};
 ghost use Rattle.mmt_fields.specs.Reading.{Gives};
 
 use crate::packet::{CtxWhy, Opened};
@@ -29,6 +29,7 @@ impl Model for Contexts {
 
 // A packet with its header.
 fn opened<'a>(packet: &Compressed<'a>, full: bool, header: Ip6Header) -> Opened<'a>
+    ensures same_full { result.full ≡ full }
     ensures payload { result.payload.now ≡ packet.entry.now.payload.now }
     ensures opened { (view result ≡ record { context = packet.entry.now.context; number = packet.entry.now.number; full = full; header = header; payload = packet.entry.now.payload.now }) }
 {
@@ -44,6 +45,7 @@ fn opened<'a>(packet: &Compressed<'a>, full: bool, header: Ip6Header) -> Opened<
 ghost use Rattle.mmt_ctx.specs.Headers.{view};
 
 impl Contexts {
+    ghost use Rattle.mmt_ctx.specs.Spelling.{head_length};
     ghost use Rattle.mmt_ctx.specs.Reading.{packet_of};
     ghost use Rattle.mmt_ctx.specs.Headers.{view, at_context, opened, opened_after, after_body, HasRead};
 
@@ -67,7 +69,7 @@ impl Contexts {
         // What it answers, and what it keeps.
         ensures answer { Gives view result (opened (at_context self.old) (packet_of body.now)) }
         ensures kept { self.new ≡ after_body self.old (packet_of body.now) }
-        ensures within { IfOk result (λ o. length o.payload.now ≤ length body.now) }
+        ensures within { IfOk result (λ o. head_length o.full + length o.payload.now ≡ length body.now) }
         ensures place { IfErr result (λ e. e.at ≤ length body.now) }
         // For every list of earlier bodies: the header is the one that looking back in the list finds.
         ensures back { (earlier : List (List ℕ)) → HasRead earlier self.old → Gives view result (opened_after earlier body.now) }

@@ -1,8 +1,9 @@
 //! Reading a header-compressed packet by itself.
 
 ghost use Rattle.std.specs.Prelude.{◌≡◌, ◌+◌, ◌<◌, ◌≤◌, ◌^◌, length, IfOk, IfErr, IfSome, Ok};
+ghost use Rattle.std.specs.Option.{is_some};
 ghost use Rattle.mmt_fields.specs.Reading.{Gives, optional_at};
-ghost use Rattle.mmt_ctx.specs.Spelling.{Value, Fits, spelling};
+ghost use Rattle.mmt_ctx.specs.Spelling.{Value, Fits, spelling, head_length};
 ghost use Rattle.mmt_ctx.specs.Reading.{packet_of, header_at as one_header};
 ghost use Rattle.mmt_ctx.specs.Compressed.{view};
 
@@ -30,7 +31,7 @@ fn refused<T>(at: u32, why: CtxWhy) -> Result<T, Refused<CtxWhy>>
 #[tactic(auto, unfolding(crate::specs::Reading::header_at))]
 fn header_at(bytes: &[u8]) -> Result<(Ip6Header, &[u8]), Refused<CtxWhy>>
     ensures gives { Gives (λ x. (x.0, x.1.now)) result (one_header bytes.now) }
-    ensures len { IfOk result (λ x. length x.1.now ≤ length bytes.now) }
+    ensures len { IfOk result (λ x. 42 + length x.1.now ≡ length bytes.now) }
     ensures place { IfErr result (λ e. e.at ≤ 3 + length bytes.now) }
 {
     if bytes.len() < 42 {
@@ -67,7 +68,7 @@ fn optional_header(
     bytes: &[u8],
 ) -> Result<(Option<Ip6Header>, &[u8]), Refused<CtxWhy>>
     ensures gives { Gives (λ x. (x.0, x.1.now)) result (optional_at stands one_header bytes.now) }
-    ensures len { IfOk result (λ x. length x.1.now ≤ length bytes.now) }
+    ensures len { IfOk result (λ x. head_length (is_some x.0) + length x.1.now ≡ 3 + length bytes.now) }
     ensures place { IfErr result (λ e. e.at ≤ 3 + length bytes.now) }
 {
     if !stands {
@@ -80,7 +81,7 @@ fn optional_header(
 #[tactic(auto, unfolding(crate::specs::Reading::packet_of))]
 fn packet(bytes: &[u8]) -> Result<Compressed<'_>, Refused<CtxWhy>>
     ensures gives { Gives view result (packet_of bytes.now) }
-    ensures within { IfOk result (λ p. length p.payload.now ≤ length bytes.now) }
+    ensures within { IfOk result (λ p. head_length (is_some p.header) + length p.payload.now ≡ length bytes.now) }
     ensures place { IfErr result (λ e. e.at ≤ length bytes.now) }
 {
     if bytes.len() < 3 {
@@ -109,8 +110,8 @@ pub fn read_compressed(bytes: &[u8]) -> Result<Compressed<'_>, Refused<CtxWhy>>
     ensures only { (v : Value) → Fits v → bytes.now ≡ spelling v → Gives view result (Ok v) }
     // Which refusal it is, and where.
     ensures exact { Gives view result (packet_of bytes.now) }
-    // The payload lies within the bytes, and so does the place of a refusal, or directly behind them.
-    ensures within { IfOk result (λ p. length p.payload.now ≤ length bytes.now) }
+    // The payload is what follows the header. A refusal's place lies within the bytes, or directly behind them.
+    ensures within { IfOk result (λ p. head_length (is_some p.header) + length p.payload.now ≡ length bytes.now) }
     ensures place { IfErr result (λ e. e.at ≤ length bytes.now) }
 {
     packet(bytes)

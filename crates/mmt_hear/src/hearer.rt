@@ -28,7 +28,7 @@ pub enum Heard<'a> {
 
 ghost use Rattle.mmt_ip.specs.Reading.{packet_of as datagram_of};
 ghost use Rattle.mmt_hear.specs.Hearing.{is_ours as ours, heard_flow, heard_datagram, hearing};
-ghost use Rattle.mmt_hear.specs.Views.{hearing_of, IsShort};
+ghost use Rattle.mmt_hear.specs.Views.{hearing_of, IsShort, LiesIn};
 
 // Whether the choice takes the flow, and it isn't NTP's.
 fn is_ours(flow: &FlowChoice, header: &Ip6Header) -> bool
@@ -51,6 +51,7 @@ fn payload(ours: bool, from: u32, bytes: &[u8]) -> Heard<'_>
     requires short { length bytes.now < 2 ^ 16 }
     ensures heard { hearing_of result ≡ heard_flow ours from bytes.now }
     ensures short { IsShort result }
+    ensures lies { LiesIn (from + length bytes.now) result }
 {
     if !ours {
         return Heard::NotOurs;
@@ -69,6 +70,7 @@ fn datagram<'a>(flow: &FlowChoice, body: &'a [u8]) -> Heard<'a>
     requires { length body.now < 2 ^ 16 }
     ensures heard { hearing_of result ≡ heard_datagram flow.now (datagram_of body.now) }
     ensures short { IsShort result }
+    ensures lies { LiesIn (4 + length body.now) result }
 {
     match read_ip6udp(body) {
         Ok(packet) => payload(is_ours(flow, &packet.header), 52, packet.payload),
@@ -83,6 +85,7 @@ fn datagram<'a>(flow: &FlowChoice, body: &'a [u8]) -> Heard<'a>
 pub fn opened(tlv: &[u8]) -> (u8, &[u8])
     requires { IsPacket tlv.now }
     ensures short { length result.1.now < 2 ^ 16 }
+    ensures len { 4 + length result.1.now ≡ length tlv.now }
     ensures packet { (packet : Tlv) → Fits packet → tlv.now ≡ spelling packet → packet ≡ record { kind = result.0; body = result.1.now } }
 {
     match read_tlv(tlv) {
@@ -126,6 +129,7 @@ impl Hearer {
     fn compressed<'a>(&mut self, flow: &FlowChoice, body: &'a [u8]) -> Heard<'a>
         requires { length body.now < 2 ^ 16 }
         ensures short { IsShort result }
+        ensures lies { LiesIn (4 + length body.now) result }
         ensures heard { (earlier : List (List ℕ)) → HasRead earlier self.old → hearing_of result ≡ heard_compressed flow.now (opened_after earlier body.now) }
         ensures next { (earlier : List (List ℕ)) → HasRead earlier self.old → HasRead (body.now ∷ earlier) self.new }
     {
@@ -148,6 +152,8 @@ impl Hearer {
         requires { IsPacket tlv.now }
         // The payload of what is heard has fewer than 2^16 bytes.
         ensures short { IsShort result }
+        // What is heard lies in the packet from its place to the end, and a refusal's place within it.
+        ensures lies { LiesIn (length tlv.now) result }
         // For every list of earlier packets, the newest of them first.
         ensures heard { (earlier : List Tlv) (packet : Tlv) → Fits packet → tlv.now ≡ spelling packet → HasHeard earlier self.old → hearing_of result ≡ hearing flow.now earlier packet }
         ensures next { (earlier : List Tlv) (packet : Tlv) → Fits packet → tlv.now ≡ spelling packet → HasHeard earlier self.old → HasHeard (packet ∷ earlier) self.new }

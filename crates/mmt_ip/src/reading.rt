@@ -1,6 +1,6 @@
 //! Reading a packet, field by field.
 
-ghost use Rattle.std.specs.Prelude.{◌≡◌, ◌<◌, ◌≤◌, ◌^◌, length, IfOk, IfErr, Ok};
+ghost use Rattle.std.specs.Prelude.{◌+◌, ◌≡◌, ◌<◌, ◌≤◌, ◌^◌, length, IfOk, IfErr, Ok};
 ghost use Rattle.mmt_fields.specs.Reading.{Gives};
 ghost use Rattle.mmt_ip.specs.Spelling.{Value, Fits, view, spelling};
 ghost use Rattle.mmt_ip.specs.Reading.{packet_of};
@@ -15,6 +15,7 @@ use mmt_fields::{u8_at, u16_at, u32_at, u128_at};
 fn packet(bytes: &[u8]) -> Result<Ip6Udp<'_>, Refused<IpWhy>>
     requires { length bytes.now < 2 ^ 31 }
     ensures gives { Gives view result (packet_of bytes.now) }
+    ensures within { IfOk result (λ p. 48 + length p.payload.now ≡ length bytes.now) }
     ensures place { IfErr result (λ e. e.at ≤ length bytes.now) }
 {
     if bytes.len() < 40 {
@@ -102,6 +103,8 @@ pub fn read_ip6udp(bytes: &[u8]) -> Result<Ip6Udp<'_>, Refused<IpWhy>>
     ensures only { (v : Value) → Fits v → bytes.now ≡ spelling v → Gives view result (Ok v) }
     // Which refusal it is, and where.
     ensures exact { Gives view result (packet_of bytes.now) }
+    // The payload is what follows the two headers.
+    ensures within { IfOk result (λ p. 48 + length p.payload.now ≡ length bytes.now) }
     // The place lies within the bytes, or directly behind them.
     ensures place { IfErr result (λ e. e.at ≤ length bytes.now) }
 {

@@ -9,7 +9,7 @@ use Rattle.mmt_ctx.specs.declared.packet.CtxWhy.{CtxWhy}
 use Rattle.mmt_ctx.specs.Headers.{Header, opened_after}
 use Rattle.mmt_hear.specs.Hearing.{ctx_reason, payload_place, compressed_bodies}
 use Rattle.mmt_list.specs.Text.{head_text, ctx_text}
-use Rattle.mmt_list.specs.Words.{why_words}
+use Rattle.mmt_words.specs.Words.{why_words}
 use Rattle.mmt_list.specs.Line.{refused_text, port_section, ip_section, ctx_section, sections, line_of}
 
 -- what stood there stands there still, where a text was appended up to a part that is left

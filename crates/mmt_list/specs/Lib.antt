@@ -1,4 +1,5 @@
 pub mod Left
 pub mod Line
+pub mod Names
+pub mod Signalling
 pub mod Text
-pub mod Words

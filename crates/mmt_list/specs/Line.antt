@@ -17,9 +17,13 @@ use Rattle.mmt_packet.specs.Reading.{packet_of as mmtp_of}
 use Rattle.mmt_mpu.specs.declared.types.MpuWhy.{MpuWhy}
 use Rattle.mmt_mpu.specs.Spelling.{Value as Mpu}
 use Rattle.mmt_mpu.specs.Reading.{payload_of as mpu_of}
+use Rattle.mmt_sig.specs.declared.head.SigWhy.{SigWhy}
+use Rattle.mmt_sig.specs.Payload.{Payload}
+use Rattle.mmt_sig.specs.PayloadReading.{payload_of as sig_of}
 use Rattle.mmt_hear.specs.Hearing.{ip_reason, ctx_reason, mmtp_reason, payload_place, compressed_bodies}
 use Rattle.mmt_list.specs.Text.{head_text, ends_text, ctx_text, mmtp_text, mpu_text, units_text}
-use Rattle.mmt_list.specs.Words.{why_words, mpu_words}
+use Rattle.mmt_list.specs.Signalling.{sig_text, messages_text}
+use Rattle.mmt_words.specs.Words.{why_words, mpu_words, sig_word}
 
 -- a refusal: its place and its words
 unfoldable pub refused_text : ℕ → List ℕ → List ℕ
@@ -30,11 +34,16 @@ unfoldable pub mpu_section : ℕ → Result Mpu (Refused MpuWhy) → List ℕ
 mpu_section at (Ok v) = mpu_text v ++ units_text v.units
 mpu_section at (Err e) = refused_text (at + e.at) (mpu_words e.why)
 
--- the payload of an MMTP packet, by its kind: that of an MPU, and no section for the others
+-- a signalling payload at a place: what it says and its messages, or its refusal (ISO/IEC 23008-1, the header of the signalling message mode)
+unfoldable pub sig_section : ℕ → Result Payload (Refused SigWhy) → List ℕ
+sig_section at (Ok v) = sig_text v ++ messages_text v
+sig_section at (Err e) = refused_text (at + e.at) (sig_word e.why)
+
+-- the payload of an MMTP packet, by its kind: that of an MPU or of signalling, and no section for a generic object
 unfoldable pub kind_section : Kind → ℕ → List ℕ → List ℕ
 kind_section kinds.Mpu at payload = mpu_section at (mpu_of payload)
 kind_section kinds.Generic at payload = []
-kind_section kinds.Signalling at payload = []
+kind_section kinds.Signalling at payload = sig_section at (sig_of payload)
 
 -- an MMTP packet at a place: its fields and its payload, which begins after its header, or its refusal
 unfoldable pub mmtp_section : ℕ → Result Mmtp (Refused PacketWhy) → List ℕ

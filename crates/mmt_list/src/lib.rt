@@ -2,10 +2,12 @@
 //! capture needs, down to each data unit, or the first thing that is wrong with it and where.
 #![tactic(auto)]
 
+mod left;
 mod lister;
+mod names;
 mod sections;
+mod signalling;
 mod texts;
-pub mod words;
 
 pub use lister::Lister;
 

@@ -5,7 +5,9 @@ ghost use Rattle.mmt_tlv.specs.Framing.{Packet, Fits, spelling};
 ghost use Rattle.mmt_tlv.specs.Cutting.{IsPacket};
 ghost use Rattle.mmt_hear.specs.Hearing.{payload_place as place_of};
 
+use crate::left::Left;
 use crate::sections::{ip_head, port_head, put_refused};
+use crate::signalling::put_messages;
 use crate::texts::{UNIT, put_ctx, put_head, put_units};
 use itoa::Buffer;
 use mmt_base::{OutOfMemory, Refused};
@@ -32,7 +34,7 @@ impl Model for Lister {
     ghost view = { λ l. l.contexts };
 }
 
-// The room that a line needs at most besides the texts of units, in bytes.
+// The room that a line needs at most besides the texts of units and of messages, in bytes.
 const LINE: usize = 800;
 
 // The place of the UDP payload in the TLV packet of a header-compressed packet, with a header or without.
@@ -46,9 +48,10 @@ impl Lister {
     ghost use Rattle.mmt_ctx.specs.Headers.{opened_after, HasRead};
     ghost use Rattle.mmt_hear.specs.Hearing.{compressed_bodies};
     ghost use Rattle.mmt_hear.specs.Views.{HasHeard};
+    ghost use Rattle.mmt_mpu.specs.View.{view as mpu_view};
     ghost use Rattle.mmt_list.specs.Left.{left_text};
     ghost use Rattle.mmt_list.specs.Line.{ctx_section, sections, line_of};
-    ghost use Rattle.mmt_list.specs.Text.{head_text};
+    ghost use Rattle.mmt_list.specs.Text.{head_text, units_text};
 
     /// A lister at the start of a stream. It takes the room for the headers of all 4,096 contexts, and
     /// a line takes no memory but that of the text.
@@ -62,13 +65,8 @@ impl Lister {
         })
     }
 
-    // Appends the sections of the header-compressed packet in a TLV packet at a place, up to its units.
-    fn ctx_head<'a>(
-        &mut self,
-        out: &mut Vec<u8>,
-        place: u64,
-        body: &'a [u8],
-    ) -> Option<MpuPayload<'a>>
+    // Appends the sections of the header-compressed packet in a TLV packet at a place, up to what is left.
+    fn ctx_head<'a>(&mut self, out: &mut Vec<u8>, place: u64, body: &'a [u8]) -> Left<'a>
         requires place { place < 2 ^ 63 }
         requires short { length body.now < 2 ^ 16 }
         requires room { vec_len out.old + 600 ≤ vec_capacity out.old }
@@ -92,19 +90,19 @@ impl Lister {
                     place + (4 + at as u64),
                     ctx_reason(why),
                 );
-                None
+                Left::Nothing
             }
         }
     }
 
-    // Appends the sections of a packet of a kind, up to its units.
+    // Appends the sections of a packet of a kind, up to what is left.
     fn sections_head<'a>(
         &mut self,
         out: &mut Vec<u8>,
         place: u64,
         kind: u8,
         body: &'a [u8],
-    ) -> Option<MpuPayload<'a>>
+    ) -> Left<'a>
         requires place { place < 2 ^ 63 }
         requires short { length body.now < 2 ^ 16 }
         requires room { vec_len out.old + 600 ≤ vec_capacity out.old }
@@ -117,31 +115,49 @@ impl Lister {
         match kind {
             0x02 => ip_head(&mut self.digits, out, place, body),
             0x03 => self.ctx_head(out, place, body),
-            _ => None,
+            _ => Left::Nothing,
         }
     }
 
-    // Appends the units of a payload, where there is one, and ends the line. Where there is no memory
-    // `out` is unchanged.
-    fn rest(&mut self, out: &mut Vec<u8>, left: Option<MpuPayload<'_>>) -> Result<(), OutOfMemory>
-        ensures items { OnOk result (out.new.items ≡ out.old.items ++ (left_text left.entry ++ codes "\n")) }
-        ensures refused { OnErr result (out.new.items ≡ out.old.items) }
+    // Appends the units of a payload.
+    fn units(&mut self, out: &mut Vec<u8>, payload: &MpuPayload<'_>) -> Result<(), OutOfMemory>
+        ensures items { OnOk result (out.new.items ≡ out.old.items ++ units_text (mpu_view payload.now).units) }
+        ensures front { take (vec_len out.old) out.new.items ≡ out.old.items }
         ensures same { self.new ≡ self.old }
     {
-        let count = match left {
-            Some(payload) => payload.count() as usize,
-            None => 0,
-        };
-        out.reserve(UNIT * count + 1)?;
-        if let Some(payload) = left {
-            put_units(&mut self.digits, out, &payload);
+        out.reserve(UNIT * payload.count() as usize)?;
+        put_units(&mut self.digits, out, payload);
+        Ok(())
+    }
+
+    // Appends what is left.
+    fn rest(&mut self, out: &mut Vec<u8>, left: Left<'_>) -> Result<(), OutOfMemory>
+        ensures items { OnOk result (out.new.items ≡ out.old.items ++ left_text left.entry) }
+        ensures front { take (vec_len out.old) out.new.items ≡ out.old.items }
+        ensures same { self.new ≡ self.old }
+    {
+        match left {
+            Left::Nothing => Ok(()),
+            Left::Units(payload) => self.units(out, &payload),
+            Left::Messages(payload) => put_messages(&mut self.digits, out, &payload),
         }
+    }
+
+    // Appends what is left, and ends the line.
+    fn end(&mut self, out: &mut Vec<u8>, left: Left<'_>) -> Result<(), OutOfMemory>
+        ensures items { OnOk result (out.new.items ≡ out.old.items ++ (left_text left.entry ++ codes "\n")) }
+        ensures front { take (vec_len out.old) out.new.items ≡ out.old.items }
+        ensures same { self.new ≡ self.old }
+    {
+        self.rest(out, left)?;
+        out.reserve(1)?;
         put_bytes(out, b"\n");
         Ok(())
     }
 
     /// Appends the line of the packet that begins at a place, counted in bytes from the start of the
-    /// stream, `tlv` being the whole packet (ARIB STD-B32 Part 3, RFC 8200, RFC 768, ISO/IEC 23008-1).
+    /// stream, `tlv` being the whole packet (ARIB STD-B32 Part 3, RFC 8200, RFC 768, ISO/IEC 23008-1,
+    /// ARIB STD-B60).
     /// Packets without a header have that which an earlier line's packet carried for their context.
     ///
     /// # Errors
@@ -162,7 +178,7 @@ impl Lister {
         out.reserve(LINE)?;
         put_head(&mut self.digits, out, place, kind, body.len());
         let left = self.sections_head(out, place, kind, body);
-        match self.rest(out, left) {
+        match self.end(out, left) {
             Ok(()) => Ok(()),
             Err(_) => {
                 out.truncate(len);

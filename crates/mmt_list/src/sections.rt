@@ -1,23 +1,26 @@
-//! Writers of the sections of a line. Each gives the MPU payload whose units are still to be
-//! written, where there is one.
+//! Writers of the sections of a line. Each gives what is still to be written behind them.
 
 ghost use Rattle.std.specs.Prelude.{◌≡◌, ℕ, ◌+◌, ◌^◌, ◌<◌, ◌≤◌, ◌++◌, length, vec_len, vec_capacity};
 ghost use Rattle.mmt_packet.specs.Reading.{packet_of as mmtp_of};
 ghost use Rattle.mmt_ip.specs.Reading.{packet_of as datagram_of};
 ghost use Rattle.mmt_mpu.specs.Reading.{payload_of as mpu_of};
-ghost use Rattle.mmt_list.specs.Line.{refused_text, mpu_section, kind_section, mmtp_section, ntp_time, ntp_section, port_section, ip_section};
-ghost use Rattle.mmt_list.specs.Words.{why_words, mpu_words};
+ghost use Rattle.mmt_sig.specs.PayloadReading.{payload_of as sig_of};
+ghost use Rattle.mmt_list.specs.Line.{refused_text, mpu_section, sig_section, kind_section, mmtp_section, ntp_time, ntp_section, port_section, ip_section};
+ghost use Rattle.mmt_words.specs.Words.{why_words, mpu_words, sig_word};
 ghost use Rattle.mmt_list.specs.Left.{left_text};
 
-use crate::texts::{put_ends, put_mmtp, put_mpu, put_number};
-use crate::words::{put_mpu_why, put_why};
+use crate::left::Left;
+use crate::signalling::put_sig;
+use crate::texts::{put_ends, put_mmtp, put_mpu};
 use itoa::Buffer;
 use mmt_base::Refused;
 use mmt_fields::put_bytes;
 use mmt_hear::{Why, ip_reason, mmtp_reason};
 use mmt_ip::read_ip6udp;
-use mmt_mpu::{MpuPayload, MpuWhy, read_mpu};
+use mmt_mpu::{MpuWhy, read_mpu};
 use mmt_packet::{Kind, read_packet};
+use mmt_sig::{SigWhy, read_sig};
+use mmt_words::{put_mpu_why, put_number, put_sig_why, put_why};
 
 /// Appends a refusal.
 #[tactic(auto, unfolding(crate::specs::Line::refused_text))]
@@ -47,14 +50,9 @@ fn put_mpu_refused(digits: &mut Buffer, out: &mut Vec<u8>, place: u64, why: MpuW
     put_mpu_why(digits, out, why);
 }
 
-// Appends the section of an MPU payload at a place, up to its units.
+// Appends the section of an MPU payload at a place, up to what is left.
 #[tactic(auto, unfolding(crate::specs::Line::mpu_section))]
-fn mpu_head<'a>(
-    digits: &mut Buffer,
-    out: &mut Vec<u8>,
-    at: u64,
-    payload: &'a [u8],
-) -> Option<MpuPayload<'a>>
+fn mpu_head<'a>(digits: &mut Buffer, out: &mut Vec<u8>, at: u64, payload: &'a [u8]) -> Left<'a>
     requires place { at < 2 ^ 63 + 2 ^ 20 }
     requires short { length payload.now < 2 ^ 16 }
     requires room { vec_len out.old + 144 ≤ vec_capacity out.old }
@@ -66,16 +64,53 @@ fn mpu_head<'a>(
     match read_mpu(payload) {
         Ok(found) => {
             put_mpu(digits, out, &found);
-            Some(found)
+            Left::Units(found)
         }
         Err(Refused { at: inner, why }) => {
             put_mpu_refused(digits, out, at + inner as u64, why);
-            None
+            Left::Nothing
         }
     }
 }
 
-// Appends the section of an MMTP payload of a kind at a place, up to its units.
+// Appends the refusal of a signalling payload.
+#[tactic(auto, unfolding(crate::specs::Line::refused_text))]
+fn put_sig_refused(digits: &mut Buffer, out: &mut Vec<u8>, place: u64, why: SigWhy)
+    requires { vec_len out.old + 80 ≤ vec_capacity out.old }
+    ensures items { out.new.items ≡ out.old.items ++ refused_text place (sig_word why) }
+    ensures grows { vec_len out.old ≤ vec_len out.new }
+    ensures len { vec_len out.new ≤ vec_len out.old + 80 }
+    ensures capacity { vec_capacity out.old ≤ vec_capacity out.new }
+{
+    put_number(digits, out, b" | refused ", place);
+    put_bytes(out, b" ");
+    put_sig_why(out, why);
+}
+
+// Appends the section of a signalling payload at a place, up to its messages.
+#[tactic(auto, unfolding(crate::specs::Line::sig_section))]
+fn sig_head<'a>(digits: &mut Buffer, out: &mut Vec<u8>, at: u64, payload: &'a [u8]) -> Left<'a>
+    requires place { at < 2 ^ 63 + 2 ^ 20 }
+    requires short { length payload.now < 2 ^ 16 }
+    requires room { vec_len out.old + 144 ≤ vec_capacity out.old }
+    ensures items { out.new.items ++ left_text result ≡ out.old.items ++ sig_section at (sig_of payload.now) }
+    ensures grows { vec_len out.old ≤ vec_len out.new }
+    ensures len { vec_len out.new ≤ vec_len out.old + 144 }
+    ensures capacity { vec_capacity out.old ≤ vec_capacity out.new }
+{
+    match read_sig(payload) {
+        Ok(found) => {
+            put_sig(digits, out, &found);
+            Left::Messages(found)
+        }
+        Err(Refused { at: inner, why }) => {
+            put_sig_refused(digits, out, at + inner as u64, why);
+            Left::Nothing
+        }
+    }
+}
+
+// Appends the section of an MMTP payload of a kind at a place, up to what is left.
 #[tactic(auto, unfolding(crate::specs::Line::kind_section))]
 fn kind_head<'a>(
     digits: &mut Buffer,
@@ -83,7 +118,7 @@ fn kind_head<'a>(
     kind: Kind,
     at: u64,
     payload: &'a [u8],
-) -> Option<MpuPayload<'a>>
+) -> Left<'a>
     requires place { at < 2 ^ 63 + 2 ^ 20 }
     requires short { length payload.now < 2 ^ 16 }
     requires room { vec_len out.old + 144 ≤ vec_capacity out.old }
@@ -94,19 +129,14 @@ fn kind_head<'a>(
 {
     match kind {
         Kind::Mpu => mpu_head(digits, out, at, payload),
-        Kind::Generic => None,
-        Kind::Signalling => None,
+        Kind::Generic => Left::Nothing,
+        Kind::Signalling => sig_head(digits, out, at, payload),
     }
 }
 
-// Appends the section of an MMTP packet at a place and that of its payload, up to its units.
+// Appends the section of an MMTP packet at a place and that of its payload, up to what is left.
 #[tactic(auto, unfolding(crate::specs::Line::mmtp_section))]
-fn mmtp_head<'a>(
-    digits: &mut Buffer,
-    out: &mut Vec<u8>,
-    at: u64,
-    bytes: &'a [u8],
-) -> Option<MpuPayload<'a>>
+fn mmtp_head<'a>(digits: &mut Buffer, out: &mut Vec<u8>, at: u64, bytes: &'a [u8]) -> Left<'a>
     requires place { at < 2 ^ 63 + 64 }
     requires short { length bytes.now < 2 ^ 16 }
     requires room { vec_len out.old + 360 ≤ vec_capacity out.old }
@@ -123,7 +153,7 @@ fn mmtp_head<'a>(
         }
         Err(Refused { at: inner, why }) => {
             put_refused(digits, out, at + inner as u64, mmtp_reason(why));
-            None
+            Left::Nothing
         }
     }
 }
@@ -157,7 +187,7 @@ fn put_ntp(digits: &mut Buffer, out: &mut Vec<u8>, message: &[u8])
     }
 }
 
-/// Appends the sections of a UDP payload at a place, up to its units.
+/// Appends the sections of a UDP payload at a place, up to what is left.
 #[tactic(auto, unfolding(crate::specs::Line::port_section))]
 pub fn port_head<'a>(
     digits: &mut Buffer,
@@ -165,7 +195,7 @@ pub fn port_head<'a>(
     port: u16,
     at: u64,
     payload: &'a [u8],
-) -> Option<MpuPayload<'a>>
+) -> Left<'a>
     requires place { at < 2 ^ 63 + 64 }
     requires short { length payload.now < 2 ^ 16 }
     requires room { vec_len out.old + 360 ≤ vec_capacity out.old }
@@ -176,20 +206,15 @@ pub fn port_head<'a>(
 {
     if port == 123 {
         put_ntp(digits, out, payload);
-        None
+        Left::Nothing
     } else {
         mmtp_head(digits, out, at, payload)
     }
 }
 
-/// Appends the sections of the IPv6 packet in a TLV packet at a place, up to its units.
+/// Appends the sections of the IPv6 packet in a TLV packet at a place, up to what is left.
 #[tactic(auto, unfolding(crate::specs::Line::ip_section))]
-pub fn ip_head<'a>(
-    digits: &mut Buffer,
-    out: &mut Vec<u8>,
-    place: u64,
-    body: &'a [u8],
-) -> Option<MpuPayload<'a>>
+pub fn ip_head<'a>(digits: &mut Buffer, out: &mut Vec<u8>, place: u64, body: &'a [u8]) -> Left<'a>
     requires place { place < 2 ^ 63 }
     requires short { length body.now < 2 ^ 16 }
     requires room { vec_len out.old + 600 ≤ vec_capacity out.old }
@@ -207,7 +232,7 @@ pub fn ip_head<'a>(
         }
         Err(Refused { at, why }) => {
             put_refused(digits, out, place + (4 + at as u64), ip_reason(why));
-            None
+            Left::Nothing
         }
     }
 }

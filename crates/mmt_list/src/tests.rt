@@ -29,6 +29,13 @@ const SHORT: &[u8] = b"\x00\x13\x61";
 // The same, and the MMTP header of an MPU packet.
 const MPU: &[u8] = b"\x00\x13\x61\x00\x00\x00\x10\x00\x01\x00\x00\x00\x00\x00\x05";
 
+// The same, and the MMTP header of a signalling packet.
+const SIGNALLING: &[u8] = b"\x00\x13\x61\x00\x02\x00\x00\x00\x01\x00\x00\x00\x00\x00\x05";
+
+// An MMTP packet with a PA message, whose MPT names an MPU with two access units.
+const TABLE: &[u8] =
+    b"\x00\x02\x00\x00\x03\xe8\x00\x64\x00\x00\x00\x01\x00\x00\x00\x00\x00\x00\x00\x00\x49\x01\x20\x00\x00\x44\x20\x00\x00\x40\xfc\x02\x70\x31\x00\x00\x01\x00\x00\x00\x00\x00\x01\x76\x68\x65\x76\x31\xfe\x01\x00\x01\x00\x00\x27\x00\x01\x0c\x00\x00\x00\x07\x00\x00\x03\xe8\x80\x00\x00\x00\x80\x26\x15\xfd\x00\x00\xea\x60\x00\x00\x00\x07\x3f\x03\xe9\x02\x03\xe9\x03\xe9\x07\xd2\x00\x00";
+
 // A TLV packet of a type with a body.
 fn packet(alloc: Global, kind: u8, body: &[u8]) -> Result<Vec<u8>, OutOfMemory>
     requires { length body.now < 2 ^ 16 }
@@ -39,14 +46,17 @@ fn packet(alloc: Global, kind: u8, body: &[u8]) -> Result<Vec<u8>, OutOfMemory>
     Ok(out)
 }
 
-// The line of a packet at place 1000 whose body is two lists of bytes, one after the other.
-fn shown(
+// The line of a packet at a place whose body is two lists of bytes, one after the other.
+fn shown_at(
     alloc: Global,
     lister: &mut Lister,
+    place: u64,
     kind: u8,
     front: &[u8],
     rest: &[u8],
-) -> Result<Vec<u8>, OutOfMemory> {
+) -> Result<Vec<u8>, OutOfMemory>
+    requires { place < 2 ^ 63 }
+{
     let mut body = Vec::new(alloc);
     body.extend_from_slice(front)?;
     body.extend_from_slice(rest)?;
@@ -55,8 +65,19 @@ fn shown(
     }
     let tlv = packet(alloc, kind, &body)?;
     let mut out = Vec::new(alloc);
-    lister.line(&mut out, 1000, &tlv)?;
+    lister.line(&mut out, place, &tlv)?;
     Ok(out)
+}
+
+// The same at place 1000.
+fn shown(
+    alloc: Global,
+    lister: &mut Lister,
+    kind: u8,
+    front: &[u8],
+    rest: &[u8],
+) -> Result<Vec<u8>, OutOfMemory> {
+    shown_at(alloc, lister, 1000, kind, front, rest)
 }
 
 #[test]
@@ -78,7 +99,7 @@ fn kinds(rt: HostRuntime) -> Result<(), Fail> {
 }
 
 #[test]
-fn list_plain_packet_version_refused(rt: HostRuntime) -> Result<(), Fail> {
+fn a_plain_packet_whose_mmtp_version_is_refused(rt: HostRuntime) -> Result<(), Fail> {
     let alloc = rt.alloc();
     let mut lister = Lister::new(alloc)?;
     let tlv = packet(alloc, 2, &PLAIN)?;
@@ -116,7 +137,7 @@ fn plain_packets_refused(rt: HostRuntime) -> Result<(), Fail> {
 }
 
 #[test]
-fn list_plain_mpu_unit(rt: HostRuntime) -> Result<(), Fail> {
+fn a_plain_packet_with_an_mpu_unit(rt: HostRuntime) -> Result<(), Fail> {
     let alloc = rt.alloc();
     let mut lister = Lister::new(alloc)?;
     let mut head = PLAIN;
@@ -216,7 +237,7 @@ fn mmtp_packets(rt: HostRuntime) -> Result<(), Fail> {
         ),
         (
             b"\x00\x02\x00\x00\x00\x01\x00\x00\x00\x00\x00\x05a",
-            b"1000 ctx 16 | cid 1 seq 3 short | mmtp id 0 type 2 time 65536 number 5 rap 0 payload 1\n",
+            b"1000 ctx 16 | cid 1 seq 3 short | mmtp id 0 type 2 time 65536 number 5 rap 0 payload 1 | refused 1019 sig-aggregated-part\n",
         ),
         (
             b"\x00\x00\x00\x10\x00\x01\x00\x00\x00\x00\x00\x05",
@@ -263,6 +284,207 @@ fn mpu_payloads(rt: HostRuntime) -> Result<(), Fail> {
     ];
     for (payload, end) in table {
         let found = shown(alloc, &mut lister, 3, MPU, payload)?;
+        assert!(rt; found.as_slice().ends_with(end));
+    }
+    Ok(())
+}
+
+#[test]
+fn table_in_a_plain_packet(rt: HostRuntime) -> Result<(), Fail> {
+    let alloc = rt.alloc();
+    let mut lister = Lister::new(alloc)?;
+    let mut head = PLAIN;
+    head[5] = 102;
+    head[45] = 102;
+    head[46] = 0;
+    head[47] = 0;
+    let found = shown_at(alloc, &mut lister, 0, 2, &head[..48], TABLE)?;
+    let line: &[u8] =
+        b"0 ip6 142 | 20010db8000000000000000000000001:51300 ff0e0000000000000000000000000101:51300 | mmtp id 0 type 2 time 65536100 number 1 rap 0 payload 82 | sig part 0 messages 1 [pa 1 [mpt 1 [name 256 7 4297114779648 times 4297114779648 4297258088390]]]\n";
+    assert_eq!(rt; found.as_slice(), line);
+    Ok(())
+}
+
+#[test]
+fn parameters_and_table_in_compressed_packets(rt: HostRuntime) -> Result<(), Fail> {
+    let alloc = rt.alloc();
+    let mut lister = Lister::new(alloc)?;
+    let first = shown_at(
+        alloc,
+        &mut lister,
+        0,
+        3,
+        b"\x00\x10\x60\x60\x00\x00\x00\x11\x40\x20\x01\x0d\xb8\x00\x00\x00\x00\x00\x00\x00\x00\x00\x00\x00\x01\xff\x0e\x00\x00\x00\x00\x00\x00\x00\x00\x00\x00\x00\x00\x01\x01\xc8\x64\xc8\x64",
+        b"\x00\x02\x00\x00\x03\xe8\x00\x00\x00\x00\x00\x00\x00\x00\xf1\x00\x00\x00\x0c\x00\x00\x0f\xa0\x00\x01\x00\x00\x00\x00\x03\xe8",
+    )?;
+    let line: &[u8] =
+        b"0 ctx 76 | cid 1 seq 0 full 20010db8000000000000000000000001:51300 ff0e0000000000000000000000000101:51300 | mmtp id 0 type 2 time 65536000 number 0 rap 0 payload 19 | sig part 0 messages 1 [hrbm 4000 65536 1000]\n";
+    assert_eq!(rt; first.as_slice(), line);
+    let second = shown_at(alloc, &mut lister, 80, 3, b"\x00\x11\x61", TABLE)?;
+    let line: &[u8] =
+        b"80 ctx 97 | cid 1 seq 1 short | mmtp id 0 type 2 time 65536100 number 1 rap 0 payload 82 | sig part 0 messages 1 [pa 1 [mpt 1 [name 256 7 4297114779648 times 4297114779648 4297258088390]]]\n";
+    assert_eq!(rt; second.as_slice(), line);
+    Ok(())
+}
+
+#[test]
+fn messages(rt: HostRuntime) -> Result<(), Fail> {
+    let alloc = rt.alloc();
+    let mut lister = Lister::new(alloc)?;
+    shown(alloc, &mut lister, 3, FULL, b"")?;
+    let table: [(&[u8], &[u8]); 8] = [
+        (
+            b"\x00\x00\xf1\x00\x00\x00\x0c\x00\x00\x0f\xa0\x00\x01\x00\x00\x00\x00\x03\xe8",
+            b" payload 19 | sig part 0 messages 1 [hrbm 4000 65536 1000]\n",
+        ),
+        (
+            b"\x00\x00\x12\x34\x61\x62",
+            b" payload 6 | sig part 0 messages 1 [message 4660]\n",
+        ),
+        (
+            b"\x40\x02\xf1\x00\x00",
+            b" payload 5 | sig part 1 messages 1\n",
+        ),
+        (b"\x80\x01\xf1\x00", b" payload 4 | sig part 2 messages 1\n"),
+        (b"\xc0\x00", b" payload 2 | sig part 3 messages 1\n"),
+        (
+            b"\x01\x00\x00\x02\x12\x34\x00\x03\x12\x35\xff",
+            b" payload 11 | sig part 0 messages 2 [message 4660] [message 4661]\n",
+        ),
+        (
+            b"\x03\x00\x00\x00\x00\x02\x12\x34",
+            b" payload 8 | sig part 0 messages 1 [message 4660]\n",
+        ),
+        (b"\x01\x00", b" payload 2 | sig part 0 messages 0\n"),
+    ];
+    for (payload, end) in table {
+        let found = shown(alloc, &mut lister, 3, SIGNALLING, payload)?;
+        assert!(rt; found.as_slice().ends_with(end));
+    }
+    Ok(())
+}
+
+#[test]
+fn messages_refused(rt: HostRuntime) -> Result<(), Fail> {
+    let alloc = rt.alloc();
+    let mut lister = Lister::new(alloc)?;
+    shown(alloc, &mut lister, 3, FULL, b"")?;
+    let table: [(&[u8], &[u8]); 4] = [
+        (
+            b"\x00\x00\xf1",
+            b" payload 3 | sig part 0 messages 1 [refused message-short]\n",
+        ),
+        (
+            b"\x00\x00\xf1\x00\x00\x00\x0b",
+            b" payload 7 | sig part 0 messages 1 [refused message-length]\n",
+        ),
+        (
+            b"\x00\x00\xf1\x00\x00\x00\x0c\x00\x00\x0f\xa0\x00\x00\x00\x05\x00\x00\x00\x05",
+            b" payload 19 | sig part 0 messages 1 [refused hrbm-values]\n",
+        ),
+        (
+            b"\x01\x00\x00\x01\xf1\x00\x02\x12\x35",
+            b" payload 9 | sig part 0 messages 2 [refused message-short] [message 4661]\n",
+        ),
+    ];
+    for (payload, end) in table {
+        let found = shown(alloc, &mut lister, 3, SIGNALLING, payload)?;
+        assert!(rt; found.as_slice().ends_with(end));
+    }
+    Ok(())
+}
+
+#[test]
+fn tables_of_pa_messages(rt: HostRuntime) -> Result<(), Fail> {
+    let alloc = rt.alloc();
+    let mut lister = Lister::new(alloc)?;
+    shown(alloc, &mut lister, 3, FULL, b"")?;
+    let table: [(&[u8], &[u8]); 7] = [
+        (
+            b"\x00\x00\x00\x00\x00\x00\x00\x00\x01\x00",
+            b" payload 10 | sig part 0 messages 1 [pa 0]\n",
+        ),
+        (
+            b"\x00\x00\x00\x00\x00\x00\x00\x00\x16\x02\x80\x01\x00\x04\x20\x00\x00\x09\x80\x01\x00\x00\x20\x00\x00\x05\xfc\x00\x00\x00\x00",
+            b" payload 31 | sig part 0 messages 1 [pa 2 [mpt 0]]\n",
+        ),
+        (
+            b"\x00\x00\x00\x00\x00\x00\x00\x00\x16\x02\x20\x00\x00\x04\x20\x00\x00\x09\x20\x00\x00\x00\x20\x00\x00\x05\xfc\x00\x00\x00\x00",
+            b" payload 31 | sig part 0 messages 1 [pa 2 [refused mpt-short] [mpt 0]]\n",
+        ),
+        (
+            b"\x00\x00\x00\x00\x00\x00\x00\x00\x10\x01\x20\x00\x00\x0b\x20\x00\x00\x07\xfc\x00\x00\x05\x00\x01\x01",
+            b" payload 25 | sig part 0 messages 1 [pa 1 [refused mpt-short]]\n",
+        ),
+        (
+            b"\x00\x00\x00\x00\x00\x00\x00\x00\x0f\x01\x20\x00\x00\x0a\x20\x00\x00\x06\xfc\x00\x00\x00\x00\xaa",
+            b" payload 24 | sig part 0 messages 1 [pa 1 [refused mpt-length]]\n",
+        ),
+        (
+            b"\x00\x00\x00\x00\x00\x00\x00\x00\x1b\x01\x20\x00\x00\x16\x20\x00\x00\x12\xfc\x00\x00\x00\x01\x00\x00\x00\x00\x00\x00\x61\x61\x70\x70\x01\x00\x00",
+            b" payload 36 | sig part 0 messages 1 [pa 1 [refused mpt-clock]]\n",
+        ),
+        (
+            b"\x00\x00\x00\x00\x00\x00\x00\x00\x1d\x01\x20\x00\x00\x18\x20\x00\x00\x14\xfc\x00\x00\x00\x01\x00\x00\x00\x00\x00\x00\x61\x61\x70\x70\xfe\x01\x06\x00\x00",
+            b" payload 38 | sig part 0 messages 1 [pa 1 [refused mpt-location]]\n",
+        ),
+    ];
+    for (payload, end) in table {
+        let found = shown(alloc, &mut lister, 3, SIGNALLING, payload)?;
+        assert!(rt; found.as_slice().ends_with(end));
+    }
+    Ok(())
+}
+
+#[test]
+fn signalling_payloads_refused(rt: HostRuntime) -> Result<(), Fail> {
+    let alloc = rt.alloc();
+    let mut lister = Lister::new(alloc)?;
+    shown(alloc, &mut lister, 3, FULL, b"")?;
+    let table: [(&[u8], &[u8]); 4] = [
+        (b"", b" payload 0 | refused 1019 sig-short\n"),
+        (b"\x00", b" payload 1 | refused 1020 sig-short\n"),
+        (
+            b"\x41\x00",
+            b" payload 2 | refused 1019 sig-aggregated-part\n",
+        ),
+        (
+            b"\x01\x00\x00\x05\x61",
+            b" payload 5 | refused 1021 sig-overrun\n",
+        ),
+    ];
+    for (payload, end) in table {
+        let found = shown(alloc, &mut lister, 3, SIGNALLING, payload)?;
+        assert!(rt; found.as_slice().ends_with(end));
+    }
+    Ok(())
+}
+
+#[test]
+fn names_of_tables(rt: HostRuntime) -> Result<(), Fail> {
+    let alloc = rt.alloc();
+    let mut lister = Lister::new(alloc)?;
+    shown(alloc, &mut lister, 3, FULL, b"")?;
+    let table: [(&[u8], &[u8]); 4] = [
+        (
+            b"\x00\x00\x00\x00\x00\x00\x00\x00\x2e\x01\x20\x00\x00\x29\x20\x00\x00\x25\xfc\x00\x00\x00\x01\x00\x00\x00\x00\x00\x00\x61\x61\x70\x70\xfe\x01\x00\x01\x00\x00\x0f\x00\x01\x0c\x00\x00\x00\x07\x00\x00\x03\xe8\x80\x00\x00\x00",
+            b" payload 55 | sig part 0 messages 1 [pa 1 [mpt 1 [name 256 7 4297114779648]]]\n",
+        ),
+        (
+            b"\x00\x00\x00\x00\x00\x00\x00\x00\x3c\x01\x20\x00\x00\x37\x20\x00\x00\x33\xfc\x00\x00\x00\x01\x00\x00\x00\x00\x00\x00\x61\x61\x70\x70\xfe\x01\x00\x01\x00\x00\x1d\x00\x01\x0c\x00\x00\x00\x07\x00\x00\x03\xe8\x80\x00\x00\x00\x80\x26\x0b\x00\x00\x00\x00\x07\x00\x00\x00\x01\xaf\xc8",
+            b" payload 69 | sig part 0 messages 1 [pa 1 [mpt 1 [name 256 7 4297114779648 times 4299262263296]]]\n",
+        ),
+        (
+            b"\x00\x00\x00\x00\x00\x00\x00\x00\x36\x01\x20\x00\x00\x31\x20\x00\x00\x2d\xfc\x00\x00\x00\x01\x00\x00\x00\x00\x00\x00\x61\x61\x70\x70\xfe\x01\x00\x01\x00\x00\x17\x00\x01\x01\x00\x80\x26\x01\x06\x00\x01\x0c\x00\x00\x00\x07\x00\x00\x03\xe8\x80\x00\x00\x00",
+            b" payload 63 | sig part 0 messages 1 [pa 1 [mpt 1 [name 256 7 4297114779648]]]\n",
+        ),
+        (
+            b"\x00\x00\x00\x00\x00\x00\x00\x00\x4e\x01\x20\x00\x00\x49\x20\x00\x00\x45\xfc\x00\x00\x00\x02\x00\x00\x00\x00\x00\x00\x61\x61\x70\x70\xfe\x00\x00\x0f\x00\x01\x0c\x00\x00\x00\x07\x00\x00\x03\xe8\x80\x00\x00\x00\x00\x00\x00\x00\x00\x00\x61\x61\x70\x70\xfe\x02\x00\x01\x00\x00\x01\x10\x00\x0f\x00\x01\x0c\x00\x00\x00\x07\x00\x00\x03\xe8\x80\x00\x00\x00",
+            b" payload 87 | sig part 0 messages 1 [pa 1 [mpt 2 [name 256 7 4297114779648] [name 272 7 4297114779648]]]\n",
+        ),
+    ];
+    for (payload, end) in table {
+        let found = shown(alloc, &mut lister, 3, SIGNALLING, payload)?;
         assert!(rt; found.as_slice().ends_with(end));
     }
     Ok(())

@@ -17,19 +17,7 @@ use mmt_ip::Ip6Header;
 use mmt_model::{Part, UnitKey};
 use mmt_mpu::{DataUnit, MpuPayload};
 use mmt_packet::{Kind, Packet};
-
-/// Appends a label of at most 16 bytes and a number in decimal digits.
-pub fn put_number(digits: &mut Buffer, out: &mut Vec<u8>, label: &[u8], number: u64)
-    requires short { length label.now ≤ 16 }
-    requires room { vec_len out.old + 36 ≤ vec_capacity out.old }
-    ensures items { out.new.items ≡ out.old.items ++ (label.now ++ decimal number) }
-    ensures grows { vec_len out.old ≤ vec_len out.new }
-    ensures len { vec_len out.new ≤ vec_len out.old + 36 }
-    ensures capacity { vec_capacity out.old ≤ vec_capacity out.new }
-{
-    put_bytes(out, label);
-    put_bytes(out, digits.format(number).as_bytes());
-}
+use mmt_words::put_number;
 
 // A hexadecimal digit.
 fn hex_digit(n: u8) -> u8
@@ -204,8 +192,8 @@ pub fn put_mmtp(digits: &mut Buffer, out: &mut Vec<u8>, packet: &Packet<'_>)
     put_number(digits, out, b" payload ", packet.payload.len() as u64);
 }
 
-// The fragmentation indicator of a part.
-fn number_of(part: Part) -> u64
+/// The fragmentation indicator of a part.
+pub fn number_of(part: Part) -> u64
     ensures { result ≡ part_number part }
 {
     match part {

@@ -6,3 +6,4 @@ pub mod AssetLaw
 pub mod TableSteps
 pub mod TableLaw
 pub mod Moved
+pub mod Sizes

@@ -18,7 +18,7 @@ use Rattle.mmt_mpt.specs.Descriptor.{descriptors_bytes}
 use Rattle.mmt_mpt.specs.DescriptorReading.{descriptors_at}
 use Rattle.mmt_mpt.specs.Asset.{AssetFits, DescriptorsFit, asset_bytes}
 use Rattle.mmt_mpt.specs.AssetReading.{asset_at}
-use Rattle.mmt_mpt.specs.Table.{mpt_id, mpt_inner, mpt_spelling, MptFits}
+use Rattle.mmt_mpt.specs.Table.{MptValue, PartsFit, mpt_id, mpt_inner, mpt_spelling, MptFits}
 use Rattle.mmt_mpt.specs.TableReading.{assets_of, mpt_of}
 use Rattle.mmt_mpt.proofs.DescriptorLaw.{descriptors_field}
 use Rattle.mmt_mpt.proofs.AssetLaw.{asset_field}
@@ -91,3 +91,11 @@ mpt_stage =
 pub mpt_format : Stage MptFits Always Begins mpt_of mpt_spelling
 unfolding mpt_spelling mpt_inner
 mpt_format = spelled _ (λ v c f. simp append-nil refl) mpt_stage
+
+-- what was written is read back
+pub read_back : (v : MptValue) → MptFits v → mpt_of (mpt_spelling v) ≡ Ok v
+read_back v fits = mpt_format.again v tt fits
+
+-- what was read can be written
+pub parts_of : (v w : MptValue) → w ≡ v → MptFits v → PartsFit w
+parts_of v w same fits = rw same fits.parts

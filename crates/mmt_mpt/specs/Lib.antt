@@ -17,3 +17,4 @@ pub mod TableReading
 pub mod TableView
 pub mod LocationWriting
 pub mod Owned
+pub mod TableWriting

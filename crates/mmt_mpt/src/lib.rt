@@ -18,7 +18,12 @@ mod reading_assets;
 mod reading_descriptors;
 mod reading_locations;
 mod reading_mpt;
+mod unwritten;
+mod writing_assets;
+mod writing_descriptors;
 mod writing_locations;
+mod writing_mpt;
+mod writing_owned_locations;
 
 pub use asset_view::AssetView;
 pub use assets::Assets;
@@ -32,7 +37,9 @@ pub use owned::{OwnedAsset, OwnedDescriptor, OwnedLocation, OwnedMpt};
 pub use owning::own_mpt;
 pub use reading_locations::read_location;
 pub use reading_mpt::read_mpt;
+pub use unwritten::Unwritten;
 pub use writing_locations::write_location;
+pub use writing_mpt::write_mpt;
 
 #[cfg(test)]
 mod tests;

@@ -1,6 +1,6 @@
 //! Reading assets.
 
-ghost use Rattle.std.specs.Prelude.{◌≡◌, ◌+◌, ◌-◌, ◌<◌, ◌≤◌, ◌^◌, List, [], ◌∷◌, length, IfOk, IfSome, Ok, Some, None, MatchResult, MatchOption};
+ghost use Rattle.std.specs.Prelude.{◌≡◌, ◌+◌, ◌-◌, ◌<◌, ◌≤◌, ◌^◌, List, [], ◌∷◌, length, IfOk, IfErr, IfSome, Ok, Some, None, MatchResult, MatchOption};
 ghost use Rattle.mmt_fields.specs.Reading.{Gives};
 ghost use Rattle.mmt_lists.specs.Counted.{counted};
 ghost use Rattle.mmt_mpt.specs.LocationView.{view_location};
@@ -23,6 +23,7 @@ fn place_at(at: u32, bytes: &[u8]) -> Result<(Location<'_>, &[u8]), Refused<Part
     requires { at + length bytes.now < 2 ^ 31 }
     ensures gives { Gives (λ x. (view_location x.0, x.1.now)) result (place_by at bytes.now) }
     ensures shorter { IfOk result (λ x. length x.1.now ≤ length bytes.now) }
+    ensures place { IfErr result (λ e. e.at ≤ at + length bytes.now) }
 {
     match location_at(at, bytes) {
         Ok(found) => Ok(found),
@@ -51,9 +52,10 @@ pub(crate) fn first_place(left: u8, at: u32, bytes: &[u8]) -> Option<(Location<'
 #[tactic(auto, using(crate::proofs::AssetSteps::places_stop, crate::proofs::AssetSteps::places_rest, crate::proofs::AssetSteps::places_here))]
 fn after_places(count: u8, from: u32, bytes: &[u8]) -> Result<&[u8], Refused<PartWhy>>
     requires { from + length bytes.now < 2 ^ 31 }
-    ensures { MatchResult result
+    ensures walk { MatchResult result
         (λ rest. ((counted count place_by from bytes.now).stop ≡ None) × (rest.now ≡ (counted count place_by from bytes.now).rest) × (length rest.now ≤ length bytes.now))
         (λ e. (counted count place_by from bytes.now).stop ≡ Some e) }
+    ensures place { IfErr result (λ e. e.at ≤ from + length bytes.now) }
 {
     let mut left = count;
     let mut at = from;
@@ -73,6 +75,7 @@ fn head_at(at: u32, bytes: &[u8]) -> Result<(Head<'_>, &[u8]), Refused<PartWhy>>
     requires { at + length bytes.now < 2 ^ 31 }
     ensures gives { Gives (λ x. (view_head x.0, x.1.now)) result (head_by at bytes.now) }
     ensures len { IfOk result (λ x. 12 + length x.0.id.now + length x.1.now ≡ length bytes.now) }
+    ensures place { IfErr result (λ e. e.at ≤ at + length bytes.now) }
 {
     let (identifier_type, rest) = u8_at(bytes, at, PartWhy::Short)?;
     let (scheme, rest) = u32_at(rest, at + 1, PartWhy::Short)?;
@@ -103,8 +106,9 @@ fn head_at(at: u32, bytes: &[u8]) -> Result<(Head<'_>, &[u8]), Refused<PartWhy>>
 pub(crate) fn asset_at(at: u32, bytes: &[u8]) -> Result<(AssetView<'_>, &[u8]), Refused<PartWhy>>
     requires { at + length bytes.now < 2 ^ 31 }
     ensures gives { Gives (λ x. (view_asset x.0, x.1.now)) result (asset_from at bytes.now) }
-    ensures place { IfOk result (λ x. (view_placed x.0).at ≡ at) }
+    ensures own_place { IfOk result (λ x. (view_placed x.0).at ≡ at) }
     ensures shorter { IfOk result (λ x. length x.1.now ≤ length bytes.now) }
+    ensures place { IfErr result (λ e. e.at ≤ at + length bytes.now) }
 {
     let end = at + bytes.len() as u32;
     let (head, locations) = head_at(at, bytes)?;

@@ -1,6 +1,6 @@
 //! Reading descriptors.
 
-ghost use Rattle.std.specs.Prelude.{◌≡◌, ◌+◌, ◌-◌, ◌<◌, ◌≤◌, ◌^◌, List, [], ◌∷◌, length, IfOk, IfSome, Ok, Some, None, MatchResult, MatchOption};
+ghost use Rattle.std.specs.Prelude.{◌≡◌, ◌+◌, ◌-◌, ◌<◌, ◌≤◌, ◌^◌, List, [], ◌∷◌, length, IfOk, IfErr, IfSome, Ok, Some, None, MatchResult, MatchOption};
 ghost use Rattle.std.specs.Int.{w8, w16, byte_len};
 ghost use Rattle.mmt_fields.specs.Reading.{Gives, number_at};
 ghost use Rattle.mmt_fields.specs.Items.{all_items};
@@ -18,6 +18,7 @@ use mmt_fields::{bytes_at, u8_at, u16_at, u32_at};
 fn short_length(at: u32, bytes: &[u8]) -> Result<(u32, &[u8]), Refused<PartWhy>>
     ensures gives { Gives (λ x. (x.0, x.1.now)) result (number_at w8 bytes.now at PartWhy.Short) }
     ensures len { IfOk result (λ x. length x.1.now + 1 ≡ length bytes.now) }
+    ensures place { IfErr result (λ e. e.at ≡ at) }
 {
     let (len, rest) = u8_at(bytes, at, PartWhy::Short)?;
     Ok((len as u32, rest))
@@ -27,6 +28,7 @@ fn short_length(at: u32, bytes: &[u8]) -> Result<(u32, &[u8]), Refused<PartWhy>>
 fn middle_length(at: u32, bytes: &[u8]) -> Result<(u32, &[u8]), Refused<PartWhy>>
     ensures gives { Gives (λ x. (x.0, x.1.now)) result (number_at w16 bytes.now at PartWhy.Short) }
     ensures len { IfOk result (λ x. length x.1.now + 2 ≡ length bytes.now) }
+    ensures place { IfErr result (λ e. e.at ≡ at) }
 {
     let (len, rest) = u16_at(bytes, at, PartWhy::Short)?;
     Ok((len as u32, rest))
@@ -37,6 +39,7 @@ fn middle_length(at: u32, bytes: &[u8]) -> Result<(u32, &[u8]), Refused<PartWhy>
 fn length_at(tag: u16, at: u32, bytes: &[u8]) -> Result<(u32, &[u8]), Refused<PartWhy>>
     ensures gives { Gives (λ x. (x.0, x.1.now)) result (number_at (width_of tag) bytes.now at PartWhy.Short) }
     ensures len { IfOk result (λ x. length x.1.now + byte_len (width_of tag) ≡ length bytes.now) }
+    ensures place { IfErr result (λ e. e.at ≡ at) }
 {
     if tag < 0x4000 {
         short_length(at, bytes)
@@ -58,6 +61,7 @@ fn descriptor_at(at: u32, bytes: &[u8]) -> Result<(Descriptor<'_>, &[u8]), Refus
     ensures gives { Gives (λ x. (value_of x.0, x.1.now)) result (descriptor_by at bytes.now) }
     ensures from { IfOk result (λ x. x.0.from ≡ at + 2 + byte_len (width_of x.0.tag)) }
     ensures shorter { IfOk result (λ x. length x.1.now < length bytes.now) }
+    ensures place { IfErr result (λ e. e.at ≤ at + length bytes.now) }
 {
     let (tag, rest) = u16_at(bytes, at, PartWhy::Short)?;
     let (len, rest) = length_at(tag, at + 2, rest)?;
@@ -70,7 +74,8 @@ fn descriptor_at(at: u32, bytes: &[u8]) -> Result<(Descriptor<'_>, &[u8]), Refus
 #[tactic(auto, using(crate::proofs::DescriptorSteps::stop_here, crate::proofs::DescriptorSteps::stop_none))]
 fn check_descriptors(from: u32, bytes: &[u8]) -> Result<(), Refused<PartWhy>>
     requires { from + length bytes.now < 2 ^ 31 }
-    ensures { MatchResult result (λ _. (all_items descriptor_by from bytes.now).stop ≡ None) (λ e. (all_items descriptor_by from bytes.now).stop ≡ Some e) }
+    ensures walk { MatchResult result (λ _. (all_items descriptor_by from bytes.now).stop ≡ None) (λ e. (all_items descriptor_by from bytes.now).stop ≡ Some e) }
+    ensures place { IfErr result (λ e. e.at ≤ from + length bytes.now) }
 {
     let mut at = from;
     let mut rest = bytes;
@@ -89,6 +94,7 @@ pub(crate) fn descriptors_at(at: u32, bytes: &[u8]) -> Result<(&[u8], &[u8]), Re
     ensures gives { Gives (λ x. ((all_items descriptor_by (at + 2) x.0.now).items, x.1.now)) result (descriptors_by at bytes.now) }
     ensures len { IfOk result (λ x. length x.0.now + length x.1.now + 2 ≡ length bytes.now) }
     ensures whole { IfOk result (λ x. length (flat_map descriptor_bytes (all_items descriptor_by (at + 2) x.0.now).items) ≡ length x.0.now) }
+    ensures place { IfErr result (λ e. e.at ≤ at + length bytes.now) }
 {
     let (len, rest) = u16_at(bytes, at, PartWhy::Short)?;
     let (inner, rest) = bytes_at(rest, len as usize, at + 2, PartWhy::Short)?;

@@ -1,6 +1,6 @@
 //! Reading a location.
 
-ghost use Rattle.std.specs.Prelude.{◌≡◌, ℕ, ◌+◌, ◌<◌, ◌≤◌, ◌^◌, List, ◌++◌, length, take, IfOk, Ok};
+ghost use Rattle.std.specs.Prelude.{◌≡◌, ℕ, ◌+◌, ◌<◌, ◌≤◌, ◌^◌, List, ◌++◌, length, take, IfOk, IfErr, Ok};
 ghost use Rattle.std.specs.Int.{w32, w128};
 ghost use Rattle.mmt_fields.specs.Reading.{Gives};
 ghost use Rattle.mmt_mpt.specs.Location.{LocationValue, LocationFits, location_bytes, IsHere, InIp4, InIp6, InStream, InIp6Stream, AtUrl};
@@ -15,6 +15,7 @@ use mmt_fields::{bytes_at, u8_at, u16_at, u32_at, u128_at};
 fn here(at: u32, bytes: &[u8]) -> Result<(Location<'_>, &[u8]), Refused<LocationWhy>>
     ensures gives { Gives (λ x. (view_location x.0, x.1.now)) result (tagged IsHere (here_at at bytes.now)) }
     ensures shorter { IfOk result (λ x. length x.1.now ≤ length bytes.now) }
+    ensures place { IfErr result (λ e. e.at ≤ at + length bytes.now) }
 {
     let (packet_id, rest) = u16_at(bytes, at, LocationWhy::Short)?;
     Ok((Location::Here { packet_id }, rest))
@@ -25,6 +26,7 @@ fn ip4(at: u32, bytes: &[u8]) -> Result<(Location<'_>, &[u8]), Refused<LocationW
     requires { at < 2 ^ 31 + 1 }
     ensures gives { Gives (λ x. (view_location x.0, x.1.now)) result (tagged InIp4 (flow_at w32 at bytes.now)) }
     ensures shorter { IfOk result (λ x. length x.1.now ≤ length bytes.now) }
+    ensures place { IfErr result (λ e. e.at ≤ at + length bytes.now) }
 {
     let (source, rest) = u32_at(bytes, at, LocationWhy::Short)?;
     let (destination, rest) = u32_at(rest, at + 4, LocationWhy::Short)?;
@@ -46,6 +48,7 @@ fn ip6(at: u32, bytes: &[u8]) -> Result<(Location<'_>, &[u8]), Refused<LocationW
     requires { at < 2 ^ 31 + 1 }
     ensures gives { Gives (λ x. (view_location x.0, x.1.now)) result (tagged InIp6 (flow_at w128 at bytes.now)) }
     ensures shorter { IfOk result (λ x. length x.1.now ≤ length bytes.now) }
+    ensures place { IfErr result (λ e. e.at ≤ at + length bytes.now) }
 {
     let (source, rest) = u128_at(bytes, at, LocationWhy::Short)?;
     let (destination, rest) = u128_at(rest, at + 16, LocationWhy::Short)?;
@@ -67,6 +70,7 @@ fn stream(at: u32, bytes: &[u8]) -> Result<(Location<'_>, &[u8]), Refused<Locati
     requires { at < 2 ^ 31 + 1 }
     ensures gives { Gives (λ x. (view_location x.0, x.1.now)) result (tagged InStream (stream_at at bytes.now)) }
     ensures shorter { IfOk result (λ x. length x.1.now ≤ length bytes.now) }
+    ensures place { IfErr result (λ e. e.at ≤ at + length bytes.now) }
 {
     let (network, rest) = u16_at(bytes, at, LocationWhy::Short)?;
     let (stream, rest) = u16_at(rest, at + 2, LocationWhy::Short)?;
@@ -87,6 +91,7 @@ fn ip6_stream(at: u32, bytes: &[u8]) -> Result<(Location<'_>, &[u8]), Refused<Lo
     requires { at < 2 ^ 31 + 1 }
     ensures gives { Gives (λ x. (view_location x.0, x.1.now)) result (tagged InIp6Stream (flow_stream_at at bytes.now)) }
     ensures shorter { IfOk result (λ x. length x.1.now ≤ length bytes.now) }
+    ensures place { IfErr result (λ e. e.at ≤ at + length bytes.now) }
 {
     let (source, rest) = u128_at(bytes, at, LocationWhy::Short)?;
     let (destination, rest) = u128_at(rest, at + 16, LocationWhy::Short)?;
@@ -109,6 +114,7 @@ fn url(at: u32, bytes: &[u8]) -> Result<(Location<'_>, &[u8]), Refused<LocationW
     requires { at < 2 ^ 31 + 1 }
     ensures gives { Gives (λ x. (view_location x.0, x.1.now)) result (tagged AtUrl (url_at at bytes.now)) }
     ensures shorter { IfOk result (λ x. length x.1.now ≤ length bytes.now) }
+    ensures place { IfErr result (λ e. e.at ≤ at + length bytes.now) }
 {
     let (len, rest) = u8_at(bytes, at, LocationWhy::Short)?;
     let (text, rest) = bytes_at(rest, len as usize, at + 1, LocationWhy::Short)?;
@@ -121,6 +127,7 @@ fn by_kind(kind: u8, at: u32, bytes: &[u8]) -> Result<(Location<'_>, &[u8]), Ref
     requires { at < 2 ^ 31 }
     ensures gives { Gives (λ x. (view_location x.0, x.1.now)) result (location_by kind at bytes.now) }
     ensures shorter { IfOk result (λ x. length x.1.now ≤ length bytes.now) }
+    ensures place { IfErr result (λ e. e.at ≤ at + 1 + length bytes.now) }
 {
     if kind == 0 {
         here(at + 1, bytes)
@@ -151,6 +158,7 @@ pub(crate) fn location_at(
     requires { at + length bytes.now < 2 ^ 31 }
     ensures gives { Gives (λ x. (view_location x.0, x.1.now)) result (location_from at bytes.now) }
     ensures shorter { IfOk result (λ x. length x.1.now < length bytes.now) }
+    ensures place { IfErr result (λ e. e.at ≤ at + length bytes.now) }
 {
     let (kind, rest) = u8_at(bytes, at, LocationWhy::Short)?;
     by_kind(kind, at, rest)
@@ -159,7 +167,8 @@ pub(crate) fn location_at(
 #[tactic(auto, unfolding(crate::specs::LocationReading::location_of))]
 fn first_location(bytes: &[u8]) -> Result<(Location<'_>, u32), Refused<LocationWhy>>
     requires { length bytes.now < 2 ^ 31 }
-    ensures { Gives (λ x. (view_location x.0, x.1)) result (location_of bytes.now) }
+    ensures gives { Gives (λ x. (view_location x.0, x.1)) result (location_of bytes.now) }
+    ensures place { IfErr result (λ e. e.at ≤ length bytes.now) }
 {
     let (location, rest) = location_at(0, bytes)?;
     Ok((location, (bytes.len() - rest.len()) as u32))
@@ -175,6 +184,8 @@ pub fn read_location(bytes: &[u8]) -> Result<(Location<'_>, u32), Refused<Locati
     ensures only { (v : LocationValue) (rest : List ℕ) → LocationFits v → bytes.now ≡ location_bytes v ++ rest → Gives (λ x. (view_location x.0, x.1)) result (read_as v) }
     // Which refusal it is, and where.
     ensures exact { Gives (λ x. (view_location x.0, x.1)) result (location_of bytes.now) }
+    // The place lies within the bytes, or directly behind them.
+    ensures place { IfErr result (λ e. e.at ≤ length bytes.now) }
 {
     first_location(bytes)
 }

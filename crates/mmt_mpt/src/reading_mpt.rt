@@ -1,6 +1,6 @@
 //! Reading an MPT.
 
-ghost use Rattle.std.specs.Prelude.{◌≡◌, ◌+◌, ◌<◌, ◌≤◌, ◌^◌, List, length, slice_index, IfOk, Ok, Err};
+ghost use Rattle.std.specs.Prelude.{◌≡◌, ◌+◌, ◌<◌, ◌≤◌, ◌^◌, List, length, slice_index, IfOk, IfErr, Ok, Err};
 ghost use Rattle.std.specs.List.{flat_map};
 ghost use Rattle.mmt_fields.specs.Reading.{Gives};
 ghost use Rattle.mmt_fields.specs.Items.{all_items};
@@ -26,6 +26,7 @@ fn table_descriptors(at: u32, bytes: &[u8]) -> Result<(&[u8], &[u8]), Refused<Mp
     ensures gives { Gives (λ x. ((all_items descriptor_at (at + 2) x.0.now).items, x.1.now)) result (as_table 0 (descriptors_by at bytes.now)) }
     ensures len { IfOk result (λ x. length x.0.now + length x.1.now + 2 ≡ length bytes.now) }
     ensures whole { IfOk result (λ x. length (flat_map descriptor_bytes (all_items descriptor_at (at + 2) x.0.now).items) ≡ length x.0.now) }
+    ensures place { IfErr result (λ e. e.at ≤ at + length bytes.now) }
 {
     match descriptors_at(at, bytes) {
         Ok(found) => Ok(found),
@@ -39,6 +40,7 @@ fn after_assets(count: u8, from: u32, bytes: &[u8]) -> Result<&[u8], Refused<Mpt
     requires { from + length bytes.now < 2 ^ 31 }
     ensures gives { Gives (λ rest. ((counted count asset_from from bytes.now).items, rest.now)) result (assets_of count from bytes.now) }
     ensures shorter { IfOk result (λ rest. length rest.now ≤ length bytes.now) }
+    ensures place { IfErr result (λ e. e.at ≤ from + length bytes.now) }
 {
     let mut number = 0;
     let mut at = from;
@@ -58,7 +60,8 @@ fn after_assets(count: u8, from: u32, bytes: &[u8]) -> Result<&[u8], Refused<Mpt
 #[tactic(auto, unfolding(crate::specs::TableReading::mpt_of))]
 fn mpt_from(table: &[u8]) -> Result<Mpt<'_>, Refused<MptWhy>>
     requires { length table.now < 2 ^ 31 }
-    ensures { Gives view result (mpt_of table.now) }
+    ensures gives { Gives view result (mpt_of table.now) }
+    ensures place { IfErr result (λ e. e.at ≤ length table.now) }
 {
     let (_, rest) = u8_at(table, 0, MptWhy::Short)?;
     let (version, rest) = u8_at(rest, 1, MptWhy::Short)?;
@@ -108,6 +111,8 @@ pub fn read_mpt(table: &[u8]) -> Result<Mpt<'_>, Refused<MptWhy>>
     ensures only { (v : MptValue) → MptFits v → table.now ≡ mpt_spelling v → Gives view result (Ok v) }
     // Which refusal it is, and where.
     ensures exact { Gives view result (mpt_of table.now) }
+    // The place lies within the table, or directly behind it.
+    ensures place { IfErr result (λ e. e.at ≤ length table.now) }
 {
     mpt_from(table)
 }

@@ -1,7 +1,14 @@
+ghost use Rattle.std.specs.Prelude.{◌<◌, IfOk};
+ghost use Rattle.mmt_mpt.specs.Table.{PartsFit};
+ghost use Rattle.mmt_mpt.specs.Owned.{owned_mpt};
+
 use crate::{
-    Location, LocationWhy, MptWhy, OwnedLocation, own_mpt, read_location, read_mpt, write_location,
+    Location, LocationWhy, MptWhy, OwnedDescriptor, OwnedLocation, OwnedMpt, Unwritten, own_mpt,
+    read_location, read_mpt, write_location, write_mpt,
 };
-use mmt_base::Refused;
+use mmt_base::{OutOfMemory, Refused};
+use mmt_model::List;
+use std::alloc::Global;
 use std::process::Abort;
 use std::test::Fail;
 
@@ -12,6 +19,10 @@ const WORKED: &[u8] =
 /// A table without assets, with a descriptor of each range of tags.
 const WIDTHS: &[u8] =
     b"\x20\x05\x00\x1e\x02\x00\x00\x19\x00\x01\x01a\x40\x00\x00\x01b\x70\x00\x00\x00\x00\x01c\x80\x00\x01d\xf0\x00\x00\x01e\x00";
+
+/// A table of one asset with a location of each type, mode 2 and asset type `aaaa`.
+const LOCATIONS: &[u8] =
+    b"\x20\x07\x00\x7a\xfe\x00\x00\x00\x01\x01\x00\x00\x00\x02\x01aaaaa\xfe\x06\x00\x00\x10\x01\x01\x02\x03\x04\x05\x06\x07\x08\xc8\x64\x00\x10\x02aaaabbbbccccddddeeeeffffgggghhhh\xc8\x64\x00\x10\x03\x00\x01\x00\x02\xff\xfe\x04aaaabbbbccccddddeeeeffffgggghhhh\xc8\x64\xe0\x10\x05\x03a:b\x00\x00";
 
 fn refusal(rt: &impl Abort, table: &[u8]) -> Option<Refused<MptWhy>> {
     assert!(rt; table.len() < 1 << 31);
@@ -182,4 +193,59 @@ fn each_refused_location_at_its_place(rt: HostRuntime) {
         assert!(rt; bytes.len() < 1 << 31);
         assert_eq!(rt; read_location(bytes).err(), Some(Refused { at, why }));
     }
+}
+
+#[test]
+#[tactic(auto, using(crate::proofs::TableLaw::parts_of))]
+fn table_that_was_read_is_written_back(rt: HostRuntime) -> Result<(), Fail> {
+    for table in [WORKED, WIDTHS, LOCATIONS] {
+        assert!(rt; table.len() < 1 << 31);
+        assert!(rt; !table.is_empty());
+        assert!(rt; table[0] == 0x20);
+        let mpt = read_mpt(table)?;
+        let owned = own_mpt(rt.alloc(), &mpt)?;
+        let mut out = Vec::new(rt.alloc());
+        assert_eq!(rt; write_mpt(&mut out, &owned), Ok(()));
+        assert_eq!(rt; out.as_slice(), table);
+    }
+    Ok(())
+}
+
+/// A table without package id and assets, with one descriptor of so many bytes of content.
+fn with_content(alloc: Global, length: usize) -> Result<OwnedMpt, OutOfMemory>
+    requires { length < 65532 }
+    ensures { IfOk result (λ m. PartsFit (owned_mpt m)) }
+{
+    let content = vec![in alloc; 0; length]?;
+    let mut descriptors = List::new(alloc);
+    descriptors.push(OwnedDescriptor {
+        tag: 0xf000,
+        bytes: List::from_vec(content),
+    })?;
+    Ok(OwnedMpt {
+        version: 0,
+        mode: 0,
+        reserved: 63,
+        package: List::new(alloc),
+        descriptors,
+        assets: List::new(alloc),
+    })
+}
+
+#[test]
+fn longest_table_is_written_and_a_longer_one_is_not(rt: HostRuntime) -> Result<(), Fail> {
+    let mut out = b"ab".to_vec(rt.alloc())?;
+    let longest = with_content(rt.alloc(), 65526)?;
+    assert_eq!(rt; write_mpt(&mut out, &longest), Ok(()));
+    assert_eq!(rt; out.len(), 65541);
+    let (head, _) = out.as_slice().split_at(6);
+    assert_eq!(rt; head, b"ab\x20\x00\xff\xff".as_slice());
+    let mut out = b"ab".to_vec(rt.alloc())?;
+    let longer = with_content(rt.alloc(), 65527)?;
+    assert_eq!(rt;
+        write_mpt(&mut out, &longer),
+        Err(Unwritten::TooLong(65536))
+    );
+    assert_eq!(rt; out.as_slice(), b"ab".as_slice());
+    Ok(())
 }

@@ -81,9 +81,10 @@ pub record LiesAt (bytes : List ℕ) (from : ℕ) (payload : List ℕ) : Type 0 
   pub fits : from + length payload ≤ length bytes
   pub same : take (length payload) (drop from bytes) ≡ payload
 
--- the packet has a kind that may be kept, and fewer than 2^31 bytes of payload (this project's rule)
+-- the packet has a kind that may be kept, a number of 32 bits, and fewer than 2^31 bytes of payload (ISO/IEC 23008-1, the packet sequence number; the kinds and the length are this project's rule)
 pub record IsKeepable (p : Kept) : Type 0 where
   pub kind : is_kept_kind p.kind ≡ true
+  pub number : p.number < 2 ^ 32
   pub short : length p.payload < 2 ^ 31
 
 -- no kept packet has the packet's id and number, and there is room for its payload (this project's rule)

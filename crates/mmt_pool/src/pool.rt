@@ -1,7 +1,7 @@
 //! The pool.
 
 ghost use Rattle.std.specs.Prelude.{◌≡◌, ℕ, ◌+◌, ◌<◌, ◌≤◌, ◌^◌, max, [], List, length, map, filter, true, false, IfOk, OnOk, OnErr, IfSome, IfNone, option_map, Some};
-ghost use Rattle.std.specs.List.{list_any};
+ghost use Rattle.std.specs.List.{AllByRecursion, list_any};
 
 use crate::types::{NotStored, Span};
 use mmt_base::{OutOfMemory, Tick};
@@ -81,6 +81,8 @@ impl Pool {
         ensures sum { result ≡ held self.now.kept }
         ensures bounded { result ≤ self.now.bound }
         ensures peak { result ≤ self.now.peak }
+        ensures in_order { IsInOrder self.now.kept }
+        ensures keepable { AllByRecursion IsKeepable self.now.kept }
     {
         self.total
     }
@@ -120,7 +122,9 @@ impl Pool {
     // Keeps a copy of the payload of a new packet that there is room for.
     fn put(&mut self, span: Span, time: Tick, kind: Kind, payload: &[u8]) -> Result<(), OutOfMemory>
         requires room { HasRoom self.old (kept_as span time.0 kind payload.now) }
-        requires keepable { IsKeepable (kept_as span time.0 kind payload.now) }
+        requires kind { is_kept_kind kind ≡ true }
+        requires short { length payload.now < 2 ^ 31 }
+        ensures keepable { IsKeepable (kept_as span time.0 kind payload.now) }
         ensures ok { OnOk result (self.new ≡ with_packet self.old (kept_as span time.0 kind payload.now)) }
         ensures err { OnErr result (self.new ≡ self.old) }
     {

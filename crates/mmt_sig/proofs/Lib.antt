@@ -4,3 +4,4 @@ pub mod PayloadLaw
 pub mod TableSteps
 pub mod MessageLaw
 pub mod Written
+pub mod Within

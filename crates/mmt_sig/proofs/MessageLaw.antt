@@ -52,7 +52,7 @@ cut id version len rest table after e long =
 abbrev TableRest : Type 0
 TableRest = OwnTable × List ℕ
 
-table_takes : (at : ℕ) (bytes : List ℕ) (t : OwnTable) (rest : List ℕ) → IsBytes bytes → table_at at bytes ≡ Ok (t, rest) → (bytes ≡ t.bytes ++ rest) × IsTable t
+pub table_takes : (at : ℕ) (bytes : List ℕ) (t : OwnTable) (rest : List ℕ) → IsBytes bytes → table_at at bytes ≡ Ok (t, rest) → (bytes ≡ t.bytes ++ rest) × IsTable t
 unfolding table_at
 table_takes at bytes t rest are e =
     let byte : (at : ℕ) → Field (λ bytes. number_at w8 bytes at why.Short) (big_endian w8) (λ n. n < 2 ^ 8) = λ at. u8_field at why.Short in

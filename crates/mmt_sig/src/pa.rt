@@ -19,7 +19,8 @@ pub struct Pa<'a> {
 }
 
 impl<'a> Pa<'a> {
-    ghost use Rattle.std.specs.Prelude.{◌≡◌, length};
+    ghost use Rattle.std.specs.Prelude.{◌≡◌, ◌<◌, ◌^◌, length, slice_index};
+    ghost use Rattle.std.specs.List.{All};
     ghost use Rattle.mmt_sig.specs.MessageView.{view_pa, tables_left};
 
     /// The message's version.
@@ -38,14 +39,12 @@ impl<'a> Pa<'a> {
 
     /// The tables, from first to last.
     pub fn tables(&self) -> Tables<'a>
-        ensures { tables_left result ≡ (view_pa self.now).tables }
+        ensures tables { tables_left result ≡ (view_pa self.now).tables }
+        // Each is short enough to be read as a table.
+        ensures within { All (λ t. length t.bytes < 2 ^ 17) (view_pa self.now).tables }
+        // Each begins with its id.
+        ensures begin { All (λ t. slice_index t.bytes 0 ≡ t.id) (view_pa self.now).tables }
     {
-        Tables {
-            left: self.count,
-            entry: 8,
-            directory: self.directory,
-            at: self.at,
-            rest: self.tables,
-        }
+        Tables::new(self.count, self.directory, self.at, self.tables)
     }
 }

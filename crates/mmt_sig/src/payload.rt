@@ -17,7 +17,8 @@ pub struct SigPayload<'a> {
 }
 
 impl<'a> SigPayload<'a> {
-    ghost use Rattle.std.specs.Prelude.{◌≡◌, length};
+    ghost use Rattle.std.specs.Prelude.{◌≡◌, ◌<◌, ◌^◌, length};
+    ghost use Rattle.std.specs.List.{All};
     ghost use Rattle.mmt_sig.specs.View.{view, messages_left};
 
     /// The header.
@@ -36,7 +37,9 @@ impl<'a> SigPayload<'a> {
 
     /// The messages from first to last, or the part of a message.
     pub fn messages(&self) -> Messages<'a>
-        ensures { messages_left result ≡ (view self.now).messages }
+        ensures messages { messages_left result ≡ (view self.now).messages }
+        // Each is short enough to be read as a message.
+        ensures within { All (λ m. length m < 2 ^ 31) (view self.now).messages }
     {
         Messages {
             lone: !self.head.aggregated,

@@ -1,6 +1,6 @@
 //! Reading a signalling payload.
 
-ghost use Rattle.std.specs.Prelude.{◌≡◌, ◌+◌, ◌-◌, ◌<◌, ◌≤◌, ◌^◌, false, List, [], ◌∷◌, length, not, IfOk, Ok, Some, None, MatchResult, MatchOption, IfSome};
+ghost use Rattle.std.specs.Prelude.{◌≡◌, ◌+◌, ◌-◌, ◌<◌, ◌≤◌, ◌^◌, false, List, [], ◌∷◌, length, not, IfOk, IfErr, Ok, Some, None, MatchResult, MatchOption, IfSome};
 ghost use Rattle.std.specs.Int.{byte_len};
 ghost use Rattle.mmt_fields.specs.Reading.{Gives, number_at};
 ghost use Rattle.mmt_fields.specs.Items.{all_items};
@@ -19,12 +19,23 @@ use mmt_model::Part;
 fn length_at(long: bool, at: u32, bytes: &[u8]) -> Result<(u32, &[u8]), Refused<SigWhy>>
     ensures gives { Gives (λ x. (x.0, x.1.now)) result (number_at (width_of long) bytes.now at SigWhy.Short) }
     ensures len { IfOk result (λ x. length x.1.now + byte_len (width_of long) ≡ length bytes.now) }
+    ensures place { IfErr result (λ e. e.at ≡ at) }
 {
     if long {
         u32_at(bytes, at, SigWhy::Short)
     } else {
         let (len, rest) = u16_at(bytes, at, SigWhy::Short)?;
         Ok((len as u32, rest))
+    }
+}
+
+/// How many bytes the length of a message takes.
+fn length_bytes(long: bool) -> u32
+    ensures { result ≡ byte_len (width_of long) }
+{
+    match long {
+        true => 4,
+        false => 2,
     }
 }
 
@@ -38,6 +49,7 @@ pub(crate) fn message_at(
     requires { at + length bytes.now < 2 ^ 31 }
     ensures gives { Gives (λ x. (x.0.now, x.1.now)) result (message_by long at bytes.now) }
     ensures shorter { IfOk result (λ x. length x.1.now < length bytes.now) }
+    ensures place { IfErr result (λ e. e.at ≤ at + length bytes.now) }
 {
     let (len, rest) = length_at(long, at, bytes)?;
     if rest.len() < len as usize {
@@ -46,7 +58,7 @@ pub(crate) fn message_at(
             why: SigWhy::Overrun,
         });
     }
-    let from = at + if long { 4 } else { 2 };
+    let from = at + length_bytes(long);
     let (message, rest) = bytes_at(rest, len as usize, from, SigWhy::Short)?;
     Ok((message, rest))
 }
@@ -72,9 +84,10 @@ pub(crate) fn first_message(lone: bool, long: bool, at: u32, bytes: &[u8]) -> Op
 #[tactic(auto, using(crate::proofs::MessageSteps::stop_step, crate::proofs::MessageSteps::count_step, crate::proofs::MessageSteps::stop_err, crate::proofs::MessageSteps::stop_none, crate::proofs::MessageSteps::count_none))]
 fn count_messages(long: bool, bytes: &[u8]) -> Result<u32, Refused<SigWhy>>
     requires { 2 + length bytes.now < 2 ^ 31 }
-    ensures { MatchResult result
+    ensures walk { MatchResult result
         (λ n. ((all_items (message_by long) 2 bytes.now).stop ≡ None) × (n ≡ length (all_items (message_by long) 2 bytes.now).items))
         (λ e. (all_items (message_by long) 2 bytes.now).stop ≡ Some e) }
+    ensures place { IfErr result (λ e. e.at ≤ 2 + length bytes.now) }
 {
     let mut place = 2;
     let mut rest = bytes;
@@ -93,6 +106,7 @@ fn count_of(aggregated: bool, long: bool, bytes: &[u8]) -> Result<u32, Refused<S
     requires { 2 + length bytes.now < 2 ^ 31 }
     ensures gives { Gives (λ _. left (not aggregated) long 2 bytes.now) result (messages_of aggregated long bytes.now) }
     ensures count { IfOk result (λ n. n ≡ length (left (not aggregated) long 2 bytes.now)) }
+    ensures place { IfErr result (λ e. e.at ≤ 2 + length bytes.now) }
 {
     if aggregated {
         count_messages(long, bytes)
@@ -115,7 +129,8 @@ fn part_of(number: u8) -> Part
 #[tactic(auto, unfolding(crate::specs::PayloadReading::payload_of))]
 fn payload(bytes: &[u8]) -> Result<SigPayload<'_>, Refused<SigWhy>>
     requires { length bytes.now < 2 ^ 31 }
-    ensures { Gives view result (payload_of bytes.now) }
+    ensures gives { Gives view result (payload_of bytes.now) }
+    ensures place { IfErr result (λ e. e.at ≤ length bytes.now) }
 {
     let (flags, rest) = u8_at(bytes, 0, SigWhy::Short)?;
     let aggregated = flags % 2 == 1;
@@ -148,6 +163,8 @@ pub fn read_sig(payload: &[u8]) -> Result<SigPayload<'_>, Refused<SigWhy>>
     ensures only { (v : Payload) → Fits v → payload.now ≡ spelling v → Gives view result (Ok v) }
     // Which refusal it is, and where.
     ensures exact { Gives view result (payload_of payload.now) }
+    // The place lies within the bytes, or directly behind them.
+    ensures place { IfErr result (λ e. e.at ≤ length payload.now) }
 {
     self::payload(payload)
 }

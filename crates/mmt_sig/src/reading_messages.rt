@@ -1,6 +1,6 @@
 //! A message, and reading it.
 
-ghost use Rattle.std.specs.Prelude.{◌≡◌, ◌+◌, ◌<◌, ◌^◌, length, IfOk, Ok};
+ghost use Rattle.std.specs.Prelude.{◌≡◌, ◌+◌, ◌<◌, ◌≤◌, ◌^◌, length, IfOk, IfErr, Ok};
 ghost use Rattle.mmt_fields.specs.Reading.{Gives};
 ghost use Rattle.mmt_sig.specs.Message.{MessageValue, MessageIsRight, message_spelling, HrbmMessage};
 ghost use Rattle.mmt_sig.specs.MessageReading.{pa_of, hrbm_of, are_right as right_by, body_by, message_of};
@@ -33,7 +33,8 @@ pub enum Message<'a> {
 #[tactic(auto, using(crate::proofs::TableSteps::length_tables), unfolding(crate::specs::MessageReading::pa_of, mmt_lists::specs::Counted::counted_of))]
 fn pa(bytes: &[u8]) -> Result<Pa<'_>, Refused<MessageWhy>>
     requires { 2 + length bytes.now < 2 ^ 31 }
-    ensures { Gives view_pa result (pa_of bytes.now) }
+    ensures gives { Gives view_pa result (pa_of bytes.now) }
+    ensures place { IfErr result (λ e. e.at ≤ 2 + length bytes.now) }
 {
     let (version, rest) = u8_at(bytes, 2, MessageWhy::Short)?;
     let (len, rest) = u32_at(rest, 3, MessageWhy::Short)?;
@@ -71,7 +72,8 @@ fn are_right(params: &Params) -> bool
 
 #[tactic(auto, unfolding(crate::specs::MessageReading::hrbm_of))]
 fn hrbm(bytes: &[u8]) -> Result<(u8, Params), Refused<MessageWhy>>
-    ensures { Gives (λ h. record { version = h.0; params = h.1 }) result (hrbm_of bytes.now) }
+    ensures gives { Gives (λ h. record { version = h.0; params = h.1 }) result (hrbm_of bytes.now) }
+    ensures place { IfErr result (λ e. e.at ≤ 2 + length bytes.now) }
 {
     let (version, rest) = u8_at(bytes, 2, MessageWhy::Short)?;
     let (len, rest) = u16_at(rest, 3, MessageWhy::Short)?;
@@ -101,7 +103,8 @@ fn hrbm(bytes: &[u8]) -> Result<(u8, Params), Refused<MessageWhy>>
 #[tactic(auto, unfolding(crate::specs::MessageReading::message_of, crate::specs::MessageReading::body_by))]
 fn message_from(bytes: &[u8]) -> Result<Message<'_>, Refused<MessageWhy>>
     requires { length bytes.now < 2 ^ 31 }
-    ensures { Gives view_message result (message_of bytes.now) }
+    ensures gives { Gives view_message result (message_of bytes.now) }
+    ensures place { IfErr result (λ e. e.at ≤ length bytes.now) }
 {
     let (id, rest) = u16_at(bytes, 0, MessageWhy::Short)?;
     if id == PA_ID {
@@ -125,6 +128,8 @@ pub fn read_message(bytes: &[u8]) -> Result<Message<'_>, Refused<MessageWhy>>
     ensures only { (v : MessageValue) → MessageIsRight v → bytes.now ≡ message_spelling v → Gives view_message result (Ok v) }
     // Which refusal it is, and where.
     ensures exact { Gives view_message result (message_of bytes.now) }
+    // The place lies within the bytes, or directly behind them.
+    ensures place { IfErr result (λ e. e.at ≤ length bytes.now) }
 {
     message_from(bytes)
 }

@@ -1,6 +1,6 @@
 //! Reading the tables of a PA message.
 
-ghost use Rattle.std.specs.Prelude.{◌≡◌, ◌+◌, ◌-◌, ◌*◌, ◌<◌, ◌≤◌, ◌^◌, List, [], ◌∷◌, length, IfOk, Ok, Some, None, MatchResult, MatchOption, IfSome};
+ghost use Rattle.std.specs.Prelude.{◌≡◌, ◌+◌, ◌-◌, ◌*◌, ◌<◌, ◌≤◌, ◌^◌, List, [], ◌∷◌, length, IfOk, IfErr, Ok, Some, None, MatchResult, MatchOption, IfSome};
 ghost use Rattle.mmt_fields.specs.Reading.{Gives};
 ghost use Rattle.mmt_lists.specs.Counted.{counted};
 ghost use Rattle.mmt_sig.specs.MessageReading.{table_at as table_by, listed_at as entry_by};
@@ -17,6 +17,7 @@ use mmt_fields::{bytes_at, u8_at, u16_at, u32_at};
 fn listed_at(at: u32, bytes: &[u8]) -> Result<(u32, &[u8]), Refused<MessageWhy>>
     ensures gives { Gives (λ x. (x.0, x.1.now)) result (entry_by at bytes.now) }
     ensures len { IfOk result (λ x. length x.1.now + 4 ≡ length bytes.now) }
+    ensures place { IfErr result (λ e. e.at ≡ at) }
 {
     u32_at(bytes, at, MessageWhy::Short)
 }
@@ -26,6 +27,7 @@ fn listed_at(at: u32, bytes: &[u8]) -> Result<(u32, &[u8]), Refused<MessageWhy>>
 fn table_at(at: u32, bytes: &[u8]) -> Result<(Whole<'_>, &[u8]), Refused<MessageWhy>>
     ensures gives { Gives (λ x. (view_own x.0, x.1.now)) result (table_by at bytes.now) }
     ensures shorter { IfOk result (λ x. length x.1.now ≤ length bytes.now) }
+    ensures place { IfErr result (λ e. e.at ≡ at) }
 {
     let (id, rest) = u8_at(bytes, at, MessageWhy::Short)?;
     let (version, rest) = u8_at(rest, at, MessageWhy::Short)?;
@@ -38,9 +40,10 @@ fn table_at(at: u32, bytes: &[u8]) -> Result<(Whole<'_>, &[u8]), Refused<Message
 #[tactic(auto, using(crate::proofs::TableSteps::directory_stop, crate::proofs::TableSteps::directory_rest, crate::proofs::TableSteps::directory_here))]
 pub(crate) fn after_directory(count: u8, bytes: &[u8]) -> Result<&[u8], Refused<MessageWhy>>
     requires { 8 + length bytes.now < 2 ^ 31 }
-    ensures { MatchResult result
+    ensures walk { MatchResult result
         (λ rest. ((counted count entry_by 8 bytes.now).stop ≡ None) × (rest.now ≡ (counted count entry_by 8 bytes.now).rest) × (length rest.now + 4 * count ≡ length bytes.now))
         (λ e. (counted count entry_by 8 bytes.now).stop ≡ Some e) }
+    ensures place { IfErr result (λ e. e.at ≤ 8 + length bytes.now) }
 {
     let mut left = count;
     let mut at = 8;
@@ -58,9 +61,10 @@ pub(crate) fn after_directory(count: u8, bytes: &[u8]) -> Result<&[u8], Refused<
 #[tactic(auto, using(crate::proofs::TableSteps::tables_stop, crate::proofs::TableSteps::tables_rest, crate::proofs::TableSteps::tables_here))]
 pub(crate) fn after_tables(count: u8, from: u32, bytes: &[u8]) -> Result<&[u8], Refused<MessageWhy>>
     requires { from + length bytes.now < 2 ^ 31 }
-    ensures { MatchResult result
+    ensures walk { MatchResult result
         (λ rest. ((counted count table_by from bytes.now).stop ≡ None) × (rest.now ≡ (counted count table_by from bytes.now).rest) × (length rest.now ≤ length bytes.now))
         (λ e. (counted count table_by from bytes.now).stop ≡ Some e) }
+    ensures place { IfErr result (λ e. e.at ≤ from + length bytes.now) }
 {
     let mut left = count;
     let mut at = from;

@@ -17,6 +17,30 @@ pub struct Tables<'a> {
     ghost fits: { at + length rest.now < 2 ^ 31 },
 }
 
+impl<'a> Tables<'a> {
+    ghost use Rattle.std.specs.Prelude.{◌≡◌, ◌+◌, ◌<◌, ◌^◌, length, slice_index};
+    ghost use Rattle.std.specs.List.{All};
+    ghost use Rattle.mmt_sig.specs.TablesLeft.{tables_by};
+    ghost use Rattle.mmt_sig.specs.MessageView.{tables_left};
+
+    /// So many tables and their directory entries, which begin at byte 8 of a message.
+    pub(crate) fn new(count: u8, directory: &'a [u8], at: u32, bytes: &'a [u8]) -> Tables<'a>
+        requires listed { 8 + length directory.now < 2 ^ 31 }
+        requires fits { at + length bytes.now < 2 ^ 31 }
+        ensures tables { tables_left result ≡ tables_by count 8 directory.now at bytes.now }
+        ensures within { All (λ t. length t.bytes < 2 ^ 17) (tables_by count 8 directory.now at bytes.now) }
+        ensures begin { All (λ t. slice_index t.bytes 0 ≡ t.id) (tables_by count 8 directory.now at bytes.now) }
+    {
+        Tables {
+            left: count,
+            entry: 8,
+            directory,
+            at,
+            rest: bytes,
+        }
+    }
+}
+
 impl<'a> Iterator for Tables<'a> {
     ghost use Rattle.std.specs.Iterator.{YieldsFirstBy, item_count};
     ghost use Rattle.mmt_sig.specs.TableView.{view_table};

@@ -1,12 +1,12 @@
 use Rattle.std.proofs.Common.{ap, subst}
-use Rattle.mmt_cli.specs.Commands.{Asks, IsCommand}
+use Rattle.mmt_command.specs.Commands.{Asks, IsCommand}
 use Rattle.mmt_cli.specs.Moments.{Moment, moment, Faults, faults}
 use Rattle.mmt_cli.specs.Promise.{Promises, HasCauses}
-use Rattle.mmt_cli.specs.Words.{texts}
+use Rattle.mmt_command.specs.Words.{texts}
 use Rattle.mmt_cli.specs.declared.status.Status.TheVariants as status
-use Rattle.mmt_cli.specs.declared.words.Command.TheVariants as command
-use Rattle.mmt_cli.proofs.PeakWords.{asks_once}
-use Rattle.mmt_cli.proofs.Wrong.{wrong_once}
+use Rattle.mmt_command.specs.declared.words.Command.TheVariants as command
+use Rattle.mmt_command.proofs.PeakWords.{asks_once}
+use Rattle.mmt_command.proofs.Wrong.{wrong_once}
 use Rattle.mmt_cli.proofs.run.run_within.Goals as goal
 
 pub returns-in-Ok-List-clause-promise : goal.returns-in-Ok-List-clause-promise

@@ -5,7 +5,7 @@ use Rattle.mmt_mpt.proofs.TableLaw.{mpt_format}
 use Rattle.mmt_mpt.proofs.reading_mpt.read_mpt.Goals as goal
 
 pub returns-clause-found : goal.returns-clause-found
-returns-clause-found c = is_found_if mpt_format view c.args.table.now c.mpt_from.result (λ i. omega (arith, c.type_inv.table i)) c.requires.id c.mpt_from.ensures
+returns-clause-found c = is_found_if mpt_format view c.args.table.now c.mpt_from.result (λ i. omega (arith, c.type_inv.table i)) c.requires.id c.mpt_from.ensures.gives
 
 pub returns-clause-only : goal.returns-clause-only
-returns-clause-only c = is_only_if mpt_format view c.args.table.now c.mpt_from.result c.mpt_from.ensures
+returns-clause-only c = is_only_if mpt_format view c.args.table.now c.mpt_from.result c.mpt_from.ensures.gives

@@ -5,7 +5,7 @@ use Rattle.mmt_sig.proofs.PayloadLaw.{payload_format}
 use Rattle.mmt_sig.proofs.reading.read_sig.Goals as goal
 
 pub returns-clause-found : goal.returns-clause-found
-returns-clause-found c = is_found payload_format view c.args.payload.now c.payload.result (λ i. omega (arith, c.type_inv.payload i)) c.payload.ensures
+returns-clause-found c = is_found payload_format view c.args.payload.now c.payload.result (λ i. omega (arith, c.type_inv.payload i)) c.payload.ensures.gives
 
 pub returns-clause-only : goal.returns-clause-only
-returns-clause-only c = is_only payload_format view c.args.payload.now c.payload.result c.payload.ensures
+returns-clause-only c = is_only payload_format view c.args.payload.now c.payload.result c.payload.ensures.gives

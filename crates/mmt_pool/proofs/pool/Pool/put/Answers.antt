@@ -16,7 +16,7 @@ invariant_of-self-2 c =
     let es : List (Span × Stored) = c.self.inside.packets.entries in
     let old : Holding = holding_of es c.self.inside.bound c.self.inside.peak in
     let r : HasRoom old (entry_of (s, v)) = rw (c.self.view_is, c.in_ok-payload.ensures.items) c.requires.room in
-    let k : IsKeepable (entry_of (s, v)) = rw (c.in_ok-payload.ensures.items) c.requires.keepable in
+    let k : IsKeepable (entry_of (s, v)) = record { kind = c.requires.kind; number = omega arith; short = rw (c.in_ok-payload.ensures.items) c.requires.short } in
     let is : holding_of c.insert.new.self.entries c.self.inside.bound c.max-self-inside.result ≡ with_packet old (entry_of (s, v)) =
     holding-insert s v es c.insert.new.self.entries c.self.inside.bound c.self.inside.peak c.self.inside.total c.max-self-inside.result (absent-entries s es r.absent) c.in_ok-insert.ensures.entries c.self.invariant.1 (rw c.in_ok-payload.ensures.items c.max-self-inside.ensures) in
     let sum : held (map entry_of c.insert.new.self.entries) ≡ held (map entry_of es) + length c.args.payload.now =

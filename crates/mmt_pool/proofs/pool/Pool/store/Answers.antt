@@ -16,14 +16,14 @@ put-requires-clause-room c =
 pub returns-in-Ok-clause-bounded : goal.returns-in-Ok-clause-bounded
 returns-in-Ok-clause-bounded c =
     let new_is : c.put.new.self ≡ with_packet c.args.self.now (of_packet c.args.packet.now) = rw (lying c.args.tlv.now c.args.from c.args.packet.now.payload.now c.requires.payload) at c.in-Ok.ensures.ok in
-    let k : IsKeepable (of_packet c.args.packet.now) = record { kind = c.requires.kind; short = omega (arith, c.requires.payload.fits, c.requires.short) } in
+    let k : IsKeepable (of_packet c.args.packet.now) = rw (lying c.args.tlv.now c.args.from c.args.packet.now.payload.now c.requires.payload) at c.put.ensures.keepable in
     let s : IsSound c.put.new.self = sound-stores _ _ _ (of_packet c.args.packet.now) (Ok _) _ c.refusal.ensures.sound k (c.in_default.ensures.refuses, refl, new_is) in
     omega (arith, s.within_peak, s.within_bound)
 
 pub returns-in-Ok-clause-in_order : goal.returns-in-Ok-clause-in_order
 returns-in-Ok-clause-in_order c =
     let new_is : c.put.new.self ≡ with_packet c.args.self.now (of_packet c.args.packet.now) = rw (lying c.args.tlv.now c.args.from c.args.packet.now.payload.now c.requires.payload) at c.in-Ok.ensures.ok in
-    let k : IsKeepable (of_packet c.args.packet.now) = record { kind = c.requires.kind; short = omega (arith, c.requires.payload.fits, c.requires.short) } in
+    let k : IsKeepable (of_packet c.args.packet.now) = rw (lying c.args.tlv.now c.args.from c.args.packet.now.payload.now c.requires.payload) at c.put.ensures.keepable in
     (sound-stores _ _ _ (of_packet c.args.packet.now) (Ok _) _ c.refusal.ensures.sound k (c.in_default.ensures.refuses, refl, new_is)).in_order
 
 pub returns-in-Ok-clause-model : goal.returns-in-Ok-clause-model
@@ -44,3 +44,7 @@ returns-in-Ok-clause-peak c =
 
 pub returns-in-Err-clause-peak : goal.returns-in-Err-clause-peak
 returns-in-Err-clause-peak c = peak-stores _ _ _ (of_packet c.args.packet.now) (Err why.OutOfMemory) _ c.refusal.ensures.sound (c.in_default.ensures.refuses, c.in-Err.ensures.err)
+
+pub put-requires-clause-short : goal.put-requires-clause-short
+put-requires-clause-short c =
+    rw (lying c.args.tlv.now c.args.from c.args.packet.now.payload.now c.requires.payload) (omega (arith, c.requires.payload.fits, c.requires.short))

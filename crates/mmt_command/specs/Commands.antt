@@ -1,0 +1,41 @@
+-- The commands, by their words.
+use Rattle.std.specs.Prelude.{◌≡◌, ℕ, ◌<◌, ◌≤◌, ◌^◌, List, [], ◌∷◌, codes, decimal}
+use Rattle.mmt_model.specs.declared.programmes.FlowChoice.{FlowChoice}
+use Rattle.mmt_model.specs.declared.programmes.FlowChoice.TheVariants as flow
+use Rattle.mmt_model.specs.declared.programmes.Params.{Params}
+use Rattle.mmt_command.specs.Flows.{flow_text, HasFlowRange}
+use Rattle.mmt_command.specs.TakeWords.{AsksTake}
+use Rattle.mmt_command.specs.declared.words.Command.{Command}
+use Rattle.mmt_command.specs.declared.words.Command.TheVariants as command
+
+-- the words of `peak`, with these behind its bound
+abbrev pub peak_words : Params → List (List ℕ) → List (List ℕ)
+peak_words r more = codes "peak" ∷ codes "--delay" ∷ decimal r.delay ∷ codes "--window" ∷ decimal r.window ∷ codes "--bound" ∷ decimal r.bound ∷ more
+
+-- the delay is at least 1 tick, the window is above it and at most 2^24 ticks, and the bound is 1 to 2^30 bytes
+pub record HasRanges (r : Params) : Type 0 where
+  pub delay : 1 ≤ r.delay
+  pub window_low : r.delay < r.window
+  pub window_high : r.window ≤ 2 ^ 24
+  pub bound_low : 1 ≤ r.bound
+  pub bound_high : r.bound ≤ 2 ^ 30
+
+-- the words that choose a flow: none, or the option with the flow's text
+abbrev pub flow_words : FlowChoice → List (List ℕ)
+flow_words flow.Any = []
+flow_words (flow.One f) = codes "--flow" ∷ flow_text f ∷ []
+
+-- a flow that is chosen has its ranges
+abbrev pub HasChoiceRange : FlowChoice → Type 0
+HasChoiceRange flow.Any = Unit {0}
+HasChoiceRange (flow.One f) = HasFlowRange f
+
+-- the words are this command
+abbrev pub Asks : Command → List (List ℕ) → Type 0
+Asks command.List words = words ≡ codes "list" ∷ []
+Asks (command.Peak choice params) words = (words ≡ peak_words params (flow_words choice)) × HasRanges params × HasChoiceRange choice
+Asks (command.Take options) words = AsksTake options words
+
+-- the words are some command
+abbrev pub IsCommand : List (List ℕ) → Type 0
+IsCommand words = (command : Command) × Asks command words

@@ -1,0 +1,51 @@
+//! What the words of the command line ask for.
+ghost use Rattle.std.specs.Prelude.{◌≡◌, ◌∷◌, [], drop, codes, IfOk, IfErr};
+ghost use Rattle.mmt_command.specs.Words.{texts, IsWrongAt};
+ghost use Rattle.mmt_command.specs.Commands.{Asks, IsCommand};
+
+use crate::numbers::is_at;
+use crate::peak_words::peak_of;
+use crate::take_words::{TakeOptions, take_of};
+use mmt_model::{FlowChoice, Params};
+
+/// A command, with its options.
+#[derive(Clone, Copy, Debug, PartialEq, Eq)]
+pub enum Command {
+    /// Reads a stream, and writes one line for each packet.
+    List,
+    /// Reads a stream, and writes what a receiver's buffer would have held of it.
+    Peak { flow: FlowChoice, params: Params },
+    /// Reads a stream, and writes a record for each unit that a receiver hands out.
+    Take(TakeOptions),
+}
+
+// The same of words that begin with `list`.
+fn list_of(words: &[String]) -> Result<Command, u32>
+    requires { texts words.now ≡ codes "list" ∷ drop 1 (texts words.now) }
+    ensures command { IfOk result (λ command. Asks command (texts words.now)) }
+    ensures wrong { IfErr result (λ index. IsWrongAt IsCommand (texts words.now) index) }
+{
+    if words.len() == 1 {
+        Ok(Command::List)
+    } else {
+        Err(1)
+    }
+}
+
+/// The command that the words are, or the index of the first word with which no command goes on, which is the number
+/// of words where they begin a command.
+pub fn command_of(words: &[String]) -> Result<Command, u32>
+    ensures command { IfOk result (λ command. Asks command (texts words.now)) }
+    ensures wrong { IfErr result (λ index. IsWrongAt IsCommand (texts words.now) index) }
+{
+    if is_at(words, 0, "list") {
+        return list_of(words);
+    }
+    if is_at(words, 0, "peak") {
+        return peak_of(words);
+    }
+    if is_at(words, 0, "take") {
+        return take_of(words);
+    }
+    Err(0)
+}

@@ -1,0 +1,6 @@
+pub mod Amounts
+pub mod NextDue
+pub mod Putting
+pub mod Recording
+pub mod Spread
+pub mod ToTheEnd

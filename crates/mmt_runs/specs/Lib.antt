@@ -1,0 +1,13 @@
+pub mod Reading
+pub mod Messages
+pub mod MessageParts
+pub mod Order
+pub mod Leading
+pub mod Lending
+pub mod Told
+pub mod Links
+pub mod Lone
+pub mod Media
+pub mod Following
+pub mod Choosing
+pub mod Offers

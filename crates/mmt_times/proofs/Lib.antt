@@ -1,0 +1,13 @@
+pub mod Slots
+pub mod Copying
+pub mod Presented
+pub mod Learning
+pub mod Anywhere
+pub mod TimesSteps
+pub mod Fixed
+pub mod Readers
+pub mod Steps
+pub mod TryingSteps
+pub mod Formula
+pub mod Laws
+pub mod Written
