@@ -3,4 +3,3 @@ pub mod NextDue
 pub mod Putting
 pub mod Recording
 pub mod Spread
-pub mod ToTheEnd

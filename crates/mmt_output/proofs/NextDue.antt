@@ -4,7 +4,6 @@ use Rattle.std.specs.Option.{option_copied}
 use denote.Bor.{Bor}
 use Rattle.mmt_model.specs.Handing.{due_units}
 use Rattle.mmt_model.specs.Units.{joined, units_of}
-use Rattle.mmt_pool.specs.declared.types.Span.{Span}
 use Rattle.mmt_pool.specs.Holding.{Kept}
 use Rattle.mmt_times.specs.Known.{Known}
 use Rattle.mmt_runs.specs.declared.order.UnitOrder.{UnitOrder}
@@ -12,18 +11,18 @@ use Rattle.mmt_runs.specs.Leading.{first, rest_after}
 use Rattle.mmt_runs.specs.Lending.{Lending, the_presentation}
 use Rattle.mmt_runs.specs.Order.{order_now}
 use Rattle.mmt_runs.specs.Reading.{heard}
-use Rattle.mmt_runs.specs.Told.{IsTold}
+use Rattle.mmt_runs.specs.Told.{IsTold, Tracked}
 use Rattle.mmt_runs.proofs.Handed.{next_due}
 use Rattle.mmt_runs.proofs.Rest.{now_of_ref}
 
 -- what is left is the unit that was found, and what is left after it
-pub due_next : (spans : List Span) (kept : List Kept) (known : Known) (after : Option UnitOrder) (ref : Option (Bor UnitOrder)) (from to : ℕ) (unit : Lending) (o : UnitOrder) → IsTold spans kept known → option_copied ref ≡ after
-    → (IsTold spans kept known → Some (the_presentation unit) ≡ first (rest_after (order_now ref) (due_units known.sample_base known.entries (units_of (map heard kept)) from to)))
+pub due_next : (told_of : Tracked) (kept : List Kept) (known : Known) (after : Option UnitOrder) (ref : Option (Bor UnitOrder)) (from to : ℕ) (unit : Lending) (o : UnitOrder) → IsTold told_of kept known → option_copied ref ≡ after
+    → (IsTold told_of kept known → Some (the_presentation unit) ≡ first (rest_after (order_now ref) (due_units known.sample_base known.entries (units_of (map heard kept)) from to)))
     → o ≡ unit.order
     → rest_after after (due_units known.sample_base known.entries (units_of (map heard kept)) from to) ≡ the_presentation unit ∷ rest_after (Some o) (due_units known.sample_base known.entries (units_of (map heard kept)) from to)
-due_next spans kept known after ref from to unit o told copied found place =
+due_next told_of kept known after ref from to unit o told copied found place =
     let found_after = found told ∙ ap (λ a. first (rest_after a (due_units known.sample_base known.entries (units_of (map heard kept)) from to))) (now_of_ref ref after copied) in
-    next_due spans kept known after from to unit told found_after
+    next_due told_of kept known after from to unit told found_after
     ∙ ap (λ p. the_presentation unit ∷ rest_after (Some p) (due_units known.sample_base known.entries (units_of (map heard kept)) from to)) (sym place)
 
 -- the bytes of a unit of which no part was lent

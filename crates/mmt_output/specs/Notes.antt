@@ -2,9 +2,7 @@
 use Rattle.std.specs.Prelude.{ℕ, List, [], ◌++◌, codes, decimal}
 use Rattle.mmt_mpt.specs.declared.mpt_why.MptWhy.{MptWhy}
 use Rattle.mmt_mpt.specs.declared.mpt_why.MptWhy.TheVariants as mpt
-use Rattle.mmt_times.specs.declared.times_why.TimesWhy.{TimesWhy}
-use Rattle.mmt_times.specs.declared.times_why.TimesWhy.TheVariants as times
-use Rattle.mmt_words.specs.Words.{why_words, mpu_words, sig_word, message_word, mpt_word}
+use Rattle.mmt_words.specs.Words.{why_words, mpu_words, sig_word, message_word, mpt_word, times_word}
 use Rattle.mmt_output.specs.declared.notes.Note.{Note}
 use Rattle.mmt_output.specs.declared.notes.Note.TheVariants as notes
 
@@ -18,13 +16,6 @@ mpt_number mpt.Short = []
 mpt_number mpt.Length = []
 mpt_number (mpt.ClockRelation asset) = codes " " ++ decimal asset
 mpt_number (mpt.LocationKind kind) = codes " " ++ decimal kind
-
--- a timestamp descriptor that counts as absent, or access unit times that do (this project's own word)
-unfoldable pub times_word : TimesWhy → List ℕ
-times_word times.Length = codes "times-length"
-times_word times.OffsetType = codes "times-offset-type"
-times_word times.TimescaleZero = codes "times-timescale"
-times_word times.Range = codes "times-range"
 
 -- a note: its word, and the numbers behind it; where no place in a message is meant, it is 0 (this project's own words)
 unfoldable pub note_words : Note → List ℕ

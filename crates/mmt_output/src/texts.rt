@@ -1,14 +1,15 @@
 //! The texts of notes, at the end of a vector that has room for them.
 
 ghost use Rattle.std.specs.Prelude.{◌≡◌, ◌+◌, ◌≤◌, ◌++◌, length, codes, decimal, vec_len, vec_capacity};
-ghost use Rattle.mmt_output.specs.Notes.{place_words, mpt_number, times_word, note_words, note_text};
+ghost use Rattle.mmt_output.specs.Notes.{place_words, mpt_number, note_words, note_text};
 
 use crate::notes::Note;
 use itoa::Buffer;
 use mmt_fields::put_bytes;
 use mmt_mpt::MptWhy;
-use mmt_times::TimesWhy;
-use mmt_words::{put_message_why, put_mpt_why, put_mpu_why, put_number, put_sig_why, put_why};
+use mmt_words::{
+    put_message_why, put_mpt_why, put_mpu_why, put_number, put_sig_why, put_times_why, put_why,
+};
 
 // Appends the number of a message and a place in it.
 fn put_place(digits: &mut Buffer, out: &mut Vec<u8>, message: u32, at: u32)
@@ -36,23 +37,6 @@ fn put_mpt_number(digits: &mut Buffer, out: &mut Vec<u8>, why: MptWhy)
         MptWhy::Length => {}
         MptWhy::ClockRelation(asset) => put_number(digits, out, b" ", asset as u64),
         MptWhy::LocationKind(kind) => put_number(digits, out, b" ", kind as u64),
-    }
-}
-
-// Appends the word for a timestamp descriptor that counts as absent. It takes at most 20 bytes.
-#[tactic(auto, unfolding(crate::specs::Notes::times_word))]
-fn put_times_why(out: &mut Vec<u8>, why: TimesWhy)
-    requires { vec_len out.old + 20 ≤ vec_capacity out.old }
-    ensures items { out.new.items ≡ out.old.items ++ times_word why }
-    ensures grows { vec_len out.old ≤ vec_len out.new }
-    ensures len { vec_len out.new ≤ vec_len out.old + 20 }
-    ensures capacity { vec_capacity out.old ≤ vec_capacity out.new }
-{
-    match why {
-        TimesWhy::Length => put_bytes(out, b"times-length"),
-        TimesWhy::OffsetType => put_bytes(out, b"times-offset-type"),
-        TimesWhy::TimescaleZero => put_bytes(out, b"times-timescale"),
-        TimesWhy::Range => put_bytes(out, b"times-range"),
     }
 }
 

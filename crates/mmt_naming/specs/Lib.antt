@@ -1,0 +1,4 @@
+pub mod Findings
+pub mod Begun
+pub mod Lines
+pub mod Places
