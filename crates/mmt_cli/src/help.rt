@@ -10,7 +10,7 @@ commands:
   list      reads a stream of TLV packets from standard input, and writes one line for each packet:
             PLACE KIND LENGTH, where PLACE counts bytes from 0, KIND is ip4, ip6, ctx, signal, null or
             other- with two hexadecimal digits, and LENGTH is that of the packet's body; and then, each
-            behind ' | ', what IPv6, header-compressed IP, NTP, MMTP and MPU payloads in it say, or the first
+            behind ' | ', what IPv6, header-compressed IP, NTP, MMTP, MPU payloads and signalling in it say, or the first
             refusal: refused PLACE WORD NUMBERS
             (no options; at most 1099511627776 bytes are read)
   peak --delay N --window N --bound N [--flow ADDRESS:PORT]

@@ -10,6 +10,10 @@ mod run;
 mod status;
 #[cfg(test)]
 mod tests;
+#[cfg(test)]
+mod worked;
+#[cfg(test)]
+mod worked_tests;
 
 use mmt_io::{MemoryShelf, Port, RealPort};
 use run::run;

@@ -6,3 +6,6 @@ mod tuning;
 
 pub use config::Config;
 pub use tuning::tuning_values;
+
+#[cfg(test)]
+mod tests;
