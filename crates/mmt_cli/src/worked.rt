@@ -1,7 +1,13 @@
 //! The worked stream: six packets of one flow, in one context with a full header every three, which
 //! carry a buffer message, a table of one asset and two units of it.
 
-use mmt_base::{Ntp, Tick};
+ghost use Rattle.std.specs.Prelude.{◌<◌, ◌≤◌, ◌^◌, length, map, IfOk, IfSome};
+ghost use Rattle.mmt_mpt.specs.Asset.{AssetFits, DescriptorsFit};
+ghost use Rattle.mmt_mpt.specs.Owned.{owned_asset, owned_descriptor, owned_mpt};
+ghost use Rattle.mmt_mpt.specs.Table.{PartsFit};
+ghost use Rattle.mmt_sig.specs.Tables.{HasOwnLength};
+
+use mmt_base::{Ntp, OutOfMemory, Tick};
 use mmt_ctx::Squeezer;
 use mmt_ip::Ip6Header;
 use mmt_model::{Au, List, Mpu, Params, Part, UnitKey};
@@ -58,15 +64,57 @@ struct Sent {
     first: bool,
 }
 
-// A part of a unit: which one of how many, and its bytes in the file, so many from a place on.
+// A packet with a part of a unit: its number and time, which part it is and how many follow, the sample, and
+// its bytes in the file, so many from a place on.
 #[derive(Clone, Copy)]
 struct Piece {
+    number: u32,
+    time: u32,
     part: Part,
     left: u8,
     sample: u32,
     from: u16,
     length: u16,
 }
+
+const PIECES: [Piece; 4] = [
+    Piece {
+        number: 0,
+        time: 65_536_200,
+        part: Part::First,
+        left: 2,
+        sample: 1,
+        from: 0,
+        length: 1400,
+    },
+    Piece {
+        number: 1,
+        time: 65_536_210,
+        part: Part::Middle,
+        left: 1,
+        sample: 1,
+        from: 1400,
+        length: 1400,
+    },
+    Piece {
+        number: 2,
+        time: 65_536_220,
+        part: Part::Last,
+        left: 0,
+        sample: 1,
+        from: 2800,
+        length: 200,
+    },
+    Piece {
+        number: 3,
+        time: 65_536_300,
+        part: Part::Whole,
+        left: 0,
+        sample: 2,
+        from: 3000,
+        length: 500,
+    },
+];
 
 /// The bytes of the worked stream.
 pub fn stream(alloc: Global) -> Result<Vec<u8>, Fail> {
@@ -88,57 +136,19 @@ pub fn stream(alloc: Global) -> Result<Vec<u8>, Fail> {
         signalling(1, 65_536_100),
         &table,
     )?;
-    let first = unit(
-        alloc,
-        Piece {
-            part: Part::First,
-            left: 2,
-            sample: 1,
-            from: 0,
-            length: 1400,
-        },
-    )?;
-    add(alloc, &mut out, &mut squeezer, media(0, 65_536_200), &first)?;
-    let middle = unit(
-        alloc,
-        Piece {
-            part: Part::Middle,
-            left: 1,
-            sample: 1,
-            from: 1400,
-            length: 1400,
-        },
-    )?;
-    add(
-        alloc,
-        &mut out,
-        &mut squeezer,
-        media(1, 65_536_210),
-        &middle,
-    )?;
-    let last = unit(
-        alloc,
-        Piece {
-            part: Part::Last,
-            left: 0,
-            sample: 1,
-            from: 2800,
-            length: 200,
-        },
-    )?;
-    add(alloc, &mut out, &mut squeezer, media(2, 65_536_220), &last)?;
-    let whole = unit(
-        alloc,
-        Piece {
-            part: Part::Whole,
-            left: 0,
-            sample: 2,
-            from: 3000,
-            length: 500,
-        },
-    )?;
-    add(alloc, &mut out, &mut squeezer, media(3, 65_536_300), &whole)?;
+    for piece in PIECES {
+        let payload = unit(alloc, piece)?;
+        add(alloc, &mut out, &mut squeezer, media(piece), &payload)?;
+    }
     Ok(out)
+}
+
+/// The bytes of one packet of the worked stream, counted from 0.
+pub fn packet(alloc: Global, number: usize) -> Result<Vec<u8>, Fail> {
+    let (place, length) = PACKETS.get(number).copied().ok_or("packet")?;
+    let all = stream(alloc)?;
+    let bytes = all.get(place..place.saturating_add(length)).ok_or("short")?;
+    Ok(Vec::from_slice(alloc, bytes)?)
 }
 
 // A packet of signalling.
@@ -153,22 +163,14 @@ fn signalling(number: u32, time: u32) -> Sent {
 }
 
 // A packet of the one MPU.
-fn media(number: u32, time: u32) -> Sent {
+fn media(piece: Piece) -> Sent {
     Sent {
         kind: Kind::Mpu,
         packet_id: ASSET,
-        number,
-        time,
-        first: number == 0,
+        number: piece.number,
+        time: piece.time,
+        first: piece.number == 0,
     }
-}
-
-/// The bytes of one packet of the worked stream, counted from 0.
-pub fn packet(alloc: Global, number: usize) -> Result<Vec<u8>, Fail> {
-    let (place, length) = PACKETS.get(number).copied().ok_or("packet")?;
-    let all = stream(alloc)?;
-    let bytes = all.get(place..place + length).ok_or("short")?;
-    Ok(Vec::from_slice(alloc, bytes)?)
 }
 
 // Adds a packet to the stream.
@@ -200,7 +202,9 @@ fn add(
 }
 
 // The bytes, where they are so many or fewer.
-fn at_most(bytes: &[u8], most: usize) -> Option<&[u8]> {
+fn at_most(bytes: &[u8], most: usize) -> Option<&[u8]>
+    ensures { IfSome result (λ b. length b.now ≤ most) }
+{
     if bytes.len() <= most {
         Some(bytes)
     } else {
@@ -243,20 +247,38 @@ fn table_payload(alloc: Global) -> Result<Vec<u8>, Fail> {
 }
 
 // The bytes of the table.
-fn table(alloc: Global) -> Result<Vec<u8>, Fail> {
-    let mut stamps = Vec::new(alloc);
-    write_stamps(&mut stamps, &[(NUMBER, TIME)])?;
-    let mut extended = Vec::new(alloc);
-    write_extended(&mut extended, TIMESCALE, &mpu(alloc)?)?;
+fn table(alloc: Global) -> Result<Vec<u8>, Fail>
+    ensures least { IfOk result (λ t. 4 ≤ length t.items) }
+    ensures most { IfOk result (λ t. length t.items < 2 ^ 16) }
+    ensures own_length { IfOk result (λ t. HasOwnLength t.items) }
+{
+    let owned = owned(alloc, asset(alloc, descriptors(alloc)?)?)?;
+    let bytes = written(alloc, &owned)?;
+    if bytes.len() < 1 << 16 {
+        Ok(bytes)
+    } else {
+        Err("long")?
+    }
+}
+
+// The bytes of a table.
+#[tactic(auto, unfolding(mmt_mpt::specs::Table::mpt_spelling, mmt_fields::specs::Reading::big_endian))]
+fn written(alloc: Global, table: &OwnedMpt) -> Result<Vec<u8>, Fail>
+    requires { PartsFit (owned_mpt table.now) }
+    ensures least { IfOk result (λ t. 4 ≤ length t.items) }
+    ensures own_length { IfOk result (λ t. HasOwnLength t.items) }
+{
     let mut out = Vec::new(alloc);
-    match write_mpt(&mut out, &owned(alloc, stamps, extended)?) {
+    match write_mpt(&mut out, table) {
         Ok(()) => Ok(out),
         Err(_) => Err("unwritten")?,
     }
 }
 
 // The MPU, whose data units are sent apart.
-fn mpu(alloc: Global) -> Result<Mpu, Fail> {
+fn mpu(alloc: Global) -> Result<Mpu, OutOfMemory>
+    ensures { IfOk result (λ m. length m.aus ≤ 60) }
+{
     let mut aus = List::new(alloc);
     aus.push(Au {
         dts_pts: 1001,
@@ -275,23 +297,59 @@ fn mpu(alloc: Global) -> Result<Mpu, Fail> {
     })
 }
 
-// The table of one asset with both descriptors.
-fn owned(alloc: Global, stamps: Vec<u8>, extended: Vec<u8>) -> Result<OwnedMpt, Fail> {
-    let mut locations = List::new(alloc);
-    locations.push(OwnedLocation::Here { packet_id: ASSET })?;
-    let mut descriptors = List::new(alloc);
-    descriptors.push(OwnedDescriptor {
+// The bytes, where they fit a length of 8 bits.
+fn short(bytes: Vec<u8>) -> Result<Vec<u8>, Fail>
+    ensures { IfOk result (λ b. length b.items < 256) }
+{
+    if bytes.len() < 256 {
+        Ok(bytes)
+    } else {
+        Err("long")?
+    }
+}
+
+// The timestamp descriptor with the MPU's presentation time, and the extended one with its access units.
+fn descriptors(alloc: Global) -> Result<List<OwnedDescriptor>, Fail>
+    ensures { IfOk result (λ ds. DescriptorsFit (map owned_descriptor ds)) }
+{
+    let mut stamps = Vec::new(alloc);
+    write_stamps(&mut stamps, &[(NUMBER, TIME)])?;
+    let mut extended = Vec::new(alloc);
+    write_extended(&mut extended, TIMESCALE, &mpu(alloc)?)?;
+    Ok(both(alloc, short(stamps)?, short(extended)?)?)
+}
+
+// Both descriptors with their contents.
+fn both(
+    alloc: Global,
+    stamps: Vec<u8>,
+    extended: Vec<u8>,
+) -> Result<List<OwnedDescriptor>, OutOfMemory>
+    requires stamps { length stamps.items < 256 }
+    requires extended { length extended.items < 256 }
+    ensures { IfOk result (λ ds. DescriptorsFit (map owned_descriptor ds)) }
+{
+    let stamps = OwnedDescriptor {
         tag: 0x0001,
         bytes: List::from_vec(stamps),
-    })?;
-    descriptors.push(OwnedDescriptor {
+    };
+    let extended = OwnedDescriptor {
         tag: 0x8026,
         bytes: List::from_vec(extended),
-    })?;
+    };
+    Ok(List::from_vec(vec![in alloc; stamps, extended]?))
+}
+
+// The asset with its descriptors.
+fn asset(alloc: Global, descriptors: List<OwnedDescriptor>) -> Result<OwnedAsset, OutOfMemory>
+    requires { DescriptorsFit (map owned_descriptor descriptors) }
+    ensures { IfOk result (λ a. AssetFits (owned_asset a)) }
+{
+    let mut locations = List::new(alloc);
+    locations.push(OwnedLocation::Here { packet_id: ASSET })?;
     let mut id = List::new(alloc);
     id.push(b'v')?;
-    let mut assets = List::new(alloc);
-    assets.push(OwnedAsset {
+    Ok(OwnedAsset {
         identifier_type: 0,
         scheme: 0,
         id,
@@ -299,7 +357,16 @@ fn owned(alloc: Global, stamps: Vec<u8>, extended: Vec<u8>) -> Result<OwnedMpt, 
         reserved: 127,
         locations,
         descriptors,
-    })?;
+    })
+}
+
+// The table of this one asset.
+fn owned(alloc: Global, asset: OwnedAsset) -> Result<OwnedMpt, OutOfMemory>
+    requires { AssetFits (owned_asset asset) }
+    ensures { IfOk result (λ m. PartsFit (owned_mpt m)) }
+{
+    let mut assets = List::new(alloc);
+    assets.push(asset)?;
     let mut package = List::new(alloc);
     package.push(b'p')?;
     package.push(b'1')?;

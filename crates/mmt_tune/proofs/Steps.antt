@@ -1,14 +1,13 @@
 -- One packet more: what tunes, and what the definitions of a receiver give for it.
-use Rattle.std.proofs.Common.{◌≡◌, ℕ, max, Bool, true, false, cond, List, [], ◌∷◌, ◌++◌, Option, Some, None, refl, sym, ap, ◌∙◌}
-use Rattle.std.specs.Prelude.{is_some}
+use Rattle.std.proofs.Common.{◌≡◌, ℕ, max, List, [], ◌∷◌, ◌++◌, Option, Some, None, refl}
 use Rattle.mmt_base.specs.Ticks.{advance}
 use Rattle.mmt_model.specs.declared.programmes.Params.{Params}
 use Rattle.mmt_model.specs.Packets.{Heard}
-use Rattle.mmt_model.specs.Keeping.{Outcome, outcome, clock, still_kept, kept, kept_after, peak, bytes_of}
+use Rattle.mmt_model.specs.Keeping.{outcome, clock, still_kept, kept, kept_after, peak, bytes_of}
 use Rattle.mmt_model.specs.Entries.{Entry, entries, forget, learn, names_if_stored}
-use Rattle.mmt_model.specs.Handing.{Presentation, Reading, due_units, final, handed, out}
+use Rattle.mmt_model.specs.Handing.{Reading, due_units, handed, out}
 use Rattle.mmt_tune.specs.declared.config.Config.{Config}
-use Rattle.mmt_tune.specs.Tuning.{HeardAt, heard_as, history, or_else, tuned, values_by}
+use Rattle.mmt_tune.specs.Tuning.{HeardAt, heard_as, history, tuned, values_by}
 use Rattle.mmt_tune.specs.Sessions.{start_of, clock_of, before_of}
 
 -- ---- what tunes

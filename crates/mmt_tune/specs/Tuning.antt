@@ -1,5 +1,5 @@
 -- Which packet tunes a receiver, with which values, and the packets from it on. Lists of packets have the newest first.
-use Rattle.std.specs.Prelude.{ℕ, ◌+◌, Bool, true, false, ◌&&◌, ◌==◌, nat_le, List, [], ◌∷◌, ◌++◌, map, Option, Some, None, is_some, Result, Ok, Err, if◌then◌else◌}
+use Rattle.std.specs.Prelude.{ℕ, ◌+◌, Bool, true, false, ◌==◌, nat_le, List, [], ◌∷◌, ◌++◌, map, Option, Some, None, is_some, Result, Ok, Err, if◌then◌else◌}
 use Rattle.mmt_base.specs.declared.refused.Refused.{Refused}
 use Rattle.mmt_model.specs.declared.programmes.FlowChoice.{FlowChoice}
 use Rattle.mmt_model.specs.declared.programmes.Params.{Params}

@@ -1,7 +1,5 @@
-use Rattle.std.proofs.Common.{◌≡◌, ◌<◌, ◌^◌, ◌∙◌, length, sym}
+use Rattle.std.proofs.Common.{◌<◌, ◌^◌, ◌∙◌, length, sym}
 use Rattle.std.proofs.lemmas.List.Elements.{All-tail}
-use Rattle.mmt_sig.specs.View.{messages_left}
-use Rattle.mmt_tune.specs.Tuning.{first_fitting}
 use Rattle.mmt_tune.proofs.Fitting.{passed_by}
 use Rattle.mmt_tune.proofs.tuning.first_fitting.Goals as goal
 

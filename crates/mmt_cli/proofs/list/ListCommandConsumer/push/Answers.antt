@@ -1,8 +1,8 @@
-use Rattle.std.proofs.Common.{◌≡◌, [], ◌∷◌, ◌++◌, ap, sym, subst, ◌∙◌}
+use Rattle.std.proofs.Common.{[], ◌∷◌, ◌++◌, ap, sym, subst}
 use Rattle.mmt_model.specs.Delivery.{newest_first}
 use Rattle.mmt_hear.specs.Views.{HasHeard}
 use Rattle.mmt_stream.proofs.Consumers.{text, gathers, stops}
-use Rattle.mmt_list.specs.Line.{line_of, lines}
+use Rattle.mmt_list.specs.Line.{line_of}
 use Rattle.mmt_list.proofs.Lines.{lines_next}
 use Rattle.mmt_peak.proofs.Ends.{newest_more}
 use Rattle.mmt_cli.specs.Listing.{listed}
