@@ -4,3 +4,4 @@ pub mod Moments
 pub mod Peaks
 pub mod Promise
 pub mod Statuses
+pub mod Takes

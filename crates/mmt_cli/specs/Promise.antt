@@ -3,6 +3,7 @@ use Rattle.std.specs.Prelude.{◌≡◌, ℕ}
 use Rattle.mmt_io.specs.Port.{Rose}
 use Rattle.mmt_cli.specs.Listing.{Lists}
 use Rattle.mmt_cli.specs.Peaks.{Peaks}
+use Rattle.mmt_cli.specs.Takes.{Takes, config_of}
 use Rattle.mmt_cli.specs.Moments.{Moment, Faults}
 use Rattle.mmt_cli.specs.declared.status.Status.{Status}
 use Rattle.mmt_cli.specs.declared.status.Status.TheVariants as status
@@ -17,8 +18,10 @@ HasPortCauses outcome old new = (outcome ≡ status.ReadFault → Rose old.reads
 abbrev pub HasCauses : Command → Status → Faults → Faults → Type 0
 HasCauses command.List outcome old new = HasPortCauses outcome old new
 HasCauses (command.Peak flow params) outcome old new = HasPortCauses outcome old new
+HasCauses (command.Take options) outcome old new = HasPortCauses outcome old new
 
 -- what a run of the command does, from the moment before it to the one after it
 abbrev pub Promises : Command → ℕ → Status → Moment → Moment → Type 0
 Promises command.List limit outcome old new = Lists limit outcome old new
 Promises (command.Peak flow params) limit outcome old new = Peaks flow params limit outcome old new
+Promises (command.Take options) limit outcome old new = Takes (config_of options) limit outcome old new

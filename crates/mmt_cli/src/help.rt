@@ -22,6 +22,18 @@ commands:
             --flow    hears this flow alone: the destination's IPv6 address in 32 hexadecimal digits, 0-9 and a-f,
                       and its port, 1 to 65535 and not 123, in decimal digits
             (the options in this order; at most 1099511627776 bytes are read)
+  take [--bound N] [--flow ADDRESS:PORT] [--sample-base N] [--timescale N] [--assume WINDOW:DELAY]
+            reads a stream of TLV packets from standard input, and writes a record for each unit that a receiver
+            hands out; what is refused is noted on standard error, and at the end units N bytes N peak N
+            --bound        the greatest buffer that a stream may ask for, in bytes of payload, 1 to 1073741824
+                           (67108864 where it is not given)
+            --flow         hears this flow alone, as with peak (any flow where it is not given)
+            --sample-base  the number of the first sample of an MPU, 0 or 1 (1 where it is not given)
+            --timescale    the units in a second of the times of access units, 1 to 4294967295 (90000 where it is
+                           not given)
+            --assume       for streams that hold no buffer message: the window and the delay in ticks, the delay
+                           1 to 16777215, the window above it and at most 16777216 (not assumed where it is not given)
+            (the options in any order, each at most once; at most 1099511627776 bytes are read)
 
 statuses, and what is printed on standard error after 'mmt: ':
   0         done

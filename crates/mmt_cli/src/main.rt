@@ -8,6 +8,9 @@ mod peak;
 mod peak_tests;
 mod run;
 mod status;
+mod take;
+#[cfg(test)]
+mod take_tests;
 #[cfg(test)]
 mod tests;
 #[cfg(test)]

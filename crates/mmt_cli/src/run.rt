@@ -9,6 +9,7 @@ ghost use Rattle.mmt_command.specs.declared.words.Command.{Command};
 use crate::list::list_within;
 use crate::peak::peak_within;
 use crate::status::Status;
+use crate::take::{configured, take_within};
 use mmt_command::{Command, command_of};
 use mmt_io::{Port, Shelf};
 use std::alloc::Global;
@@ -44,6 +45,7 @@ pub fn run_within<P: Port, H: Shelf>(
     match command_of(words) {
         Ok(Command::List) => list_within(alloc, port, limit),
         Ok(Command::Peak { flow, params }) => peak_within(alloc, port, flow, params, limit),
+        Ok(Command::Take(options)) => take_within(alloc, port, configured(&options), limit),
         Err(index) => Status::Usage { index },
     }
 }

@@ -13,6 +13,7 @@ use Rattle.mmt_command.specs.Commands.{Asks, IsCommand, HasRanges, HasChoiceRang
 use Rattle.mmt_command.specs.declared.words.Command.{Command}
 use Rattle.mmt_command.specs.declared.words.Command.TheVariants as command
 use Rattle.mmt_command.proofs.FlowTexts.{flow_text_once}
+use Rattle.mmt_command.proofs.TakeGiven.{take_once}
 use Rattle.mmt_command.proofs.Wrong.{wrong_behind}
 
 -- the word at a place of two equal lists
@@ -22,23 +23,33 @@ word_of k xs ys e = ap (λ x. get_or x k []) e
 differ : (xs ys : List (List ℕ)) → codes "list" ∷ xs ≡ codes "peak" ∷ ys → ⊥
 differ xs ys e = omega (arith, ap (λ x. get_or (get_or x 0 []) 0 0) e)
 
+list_no_take : (xs ys : List (List ℕ)) → codes "list" ∷ xs ≡ codes "take" ∷ ys → ⊥
+list_no_take xs ys e = omega (arith, ap (λ x. get_or (get_or x 0 []) 0 0) e)
+
+peak_no_take : (xs ys : List (List ℕ)) → codes "peak" ∷ xs ≡ codes "take" ∷ ys → ⊥
+peak_no_take xs ys e = omega (arith, ap (λ x. get_or (get_or x 0 []) 0 0) e)
+
 -- the first word
 nothing_is : IsCommand [] → ⊥
 nothing_is (command.List, is) = omega (arith, ap length is)
 nothing_is (command.Peak choice r, is) = omega (arith, ap length is.0)
+nothing_is (command.Take o, is) = omega (arith, ap length is.spelled)
 
 first_is : (word : List ℕ) (words more tail : List (List ℕ)) → words ≡ word ∷ more → IsCommand (word ∷ tail) → ((rest : List (List ℕ)) → words ≡ codes "list" ∷ rest → ⊥)
-    → ((rest : List (List ℕ)) → words ≡ codes "peak" ∷ rest → ⊥) → ⊥
-first_is word words more tail e (command.List, is) list peak = list more (e ∙ ap (λ x. x ∷ more) (word_of 0 _ _ is))
-first_is word words more tail e (command.Peak choice r, is) list peak = peak more (e ∙ ap (λ x. x ∷ more) (word_of 0 _ _ is.0))
+    → ((rest : List (List ℕ)) → words ≡ codes "peak" ∷ rest → ⊥) → ((rest : List (List ℕ)) → words ≡ codes "take" ∷ rest → ⊥) → ⊥
+first_is word words more tail e (command.List, is) list peak take = list more (e ∙ ap (λ x. x ∷ more) (word_of 0 _ _ is))
+first_is word words more tail e (command.Peak choice r, is) list peak take = peak more (e ∙ ap (λ x. x ∷ more) (word_of 0 _ _ is.0))
+first_is word words more tail e (command.Take o, is) list peak take = take more (e ∙ ap (λ x. x ∷ more) (word_of 0 _ _ is.spelled))
 
-pub no_first : (words : List (List ℕ)) → ((rest : List (List ℕ)) → words ≡ codes "list" ∷ rest → ⊥) → ((rest : List (List ℕ)) → words ≡ codes "peak" ∷ rest → ⊥) → IsWrongAt IsCommand words 0
-no_first words list peak = wrong_behind IsCommand [] words (codes "list" ∷ [], (command.List, refl)) (λ e c. nothing_is c) (λ w more tail e c. first_is w words more tail e c list peak)
+pub no_first : (words : List (List ℕ)) → ((rest : List (List ℕ)) → words ≡ codes "list" ∷ rest → ⊥) → ((rest : List (List ℕ)) → words ≡ codes "peak" ∷ rest → ⊥) → ((rest : List (List ℕ)) → words ≡ codes "take" ∷ rest → ⊥)
+    → IsWrongAt IsCommand words 0
+no_first words list peak take = wrong_behind IsCommand [] words (codes "list" ∷ [], (command.List, refl)) (λ e c. nothing_is c) (λ w more tail e c. first_is w words more tail e c list peak take)
 
 -- a word behind `list`
 list_alone : (word : List ℕ) (words : List (List ℕ)) → IsCommand (codes "list" ∷ word ∷ words) → ⊥
 list_alone word words (command.List, is) = omega (arith, ap length is)
 list_alone word words (command.Peak choice r, is) = differ _ _ is.0
+list_alone word words (command.Take o, is) = list_no_take _ _ is.spelled
 
 pub after_list : (words : List (List ℕ)) → (words ≡ [] → ⊥) → IsWrongAt IsCommand (codes "list" ∷ words) 1
 after_list words some = wrong_behind IsCommand (codes "list" ∷ []) words ([], (command.List, refl)) (λ e c. some e) (λ w more tail e c. list_alone w tail c)
@@ -47,6 +58,7 @@ after_list words some = wrong_behind IsCommand (codes "list" ∷ []) words ([], 
 peak_inside : (words : List (List ℕ)) → IsCommand (codes "peak" ∷ words) → (r : Params) × (choice : FlowChoice) × (codes "peak" ∷ words ≡ peak_words r (flow_words choice)) × HasRanges r × HasChoiceRange choice
 peak_inside words (command.List, is) = absurd (differ _ _ (sym is))
 peak_inside words (command.Peak choice r, is) = (r, choice, is.0, is.1, is.2)
+peak_inside words (command.Take o, is) = absurd (peak_no_take _ _ is.spelled)
 
 completed : (r : Params) → HasRanges r → IsCommand (peak_words r [])
 completed r ranges = (command.Peak flow.Any r, (refl, ranges, tt))
@@ -116,10 +128,10 @@ one_flow : (choice : FlowChoice) (u v : List ℕ) (tail : List (List ℕ)) → u
 one_flow flow.Any u v tail e range = absurd (omega (arith, ap length e))
 one_flow (flow.One f) u v tail e range = (f, word_of 1 _ _ e, range, ap (λ x. drop 2 x) e)
 
-first_flow : Flow
+pub first_flow : Flow
 first_flow = record { address = 0; port = 1 }
 
-first_range : HasFlowRange first_flow
+pub first_range : HasFlowRange first_flow
 unfolding first_flow
 first_range = record { address = omega arith; port_low = omega arith; port_high = omega arith; not_ntp = λ e. omega arith }
 
@@ -155,6 +167,11 @@ same_params r s b w d =
 pub asks_once : (a b : Command) (words : List (List ℕ)) → Asks a words → Asks b words → a ≡ b
 asks_once command.List command.List words x y = refl
 asks_once command.List (command.Peak g s) words x y = absurd (differ _ _ (sym x ∙ y.0))
+asks_once command.List (command.Take b) words x y = absurd (list_no_take _ _ (sym x ∙ y.spelled))
+asks_once (command.Take a) command.List words x y = absurd (list_no_take _ _ (sym y ∙ x.spelled))
+asks_once (command.Take a) (command.Peak g s) words x y = absurd (peak_no_take _ _ (sym y.0 ∙ x.spelled))
+asks_once (command.Take a) (command.Take b) words x y = ap (λ k. command.Take k) (take_once a b words x y)
+asks_once (command.Peak f r) (command.Take b) words x y = absurd (peak_no_take _ _ (sym x.0 ∙ y.spelled))
 asks_once (command.Peak f r) command.List words x y = absurd (differ _ _ (sym y ∙ x.0))
 asks_once (command.Peak f r) (command.Peak g s) words x y =
     let p = x.1 in let q = y.1 in

@@ -4,6 +4,7 @@ use Rattle.mmt_model.specs.declared.programmes.FlowChoice.{FlowChoice}
 use Rattle.mmt_model.specs.declared.programmes.FlowChoice.TheVariants as flow
 use Rattle.mmt_model.specs.declared.programmes.Params.{Params}
 use Rattle.mmt_command.specs.Flows.{flow_text, HasFlowRange}
+use Rattle.mmt_command.specs.TakeWords.{AsksTake}
 use Rattle.mmt_command.specs.declared.words.Command.{Command}
 use Rattle.mmt_command.specs.declared.words.Command.TheVariants as command
 
@@ -33,6 +34,7 @@ HasChoiceRange (flow.One f) = HasFlowRange f
 abbrev pub Asks : Command → List (List ℕ) → Type 0
 Asks command.List words = words ≡ codes "list" ∷ []
 Asks (command.Peak choice params) words = (words ≡ peak_words params (flow_words choice)) × HasRanges params × HasChoiceRange choice
+Asks (command.Take options) words = AsksTake options words
 
 -- the words are some command
 abbrev pub IsCommand : List (List ℕ) → Type 0

@@ -1,11 +1,17 @@
 //! What the words of the command line ask for.
 #![tactic(auto)]
 
+mod assumed;
 mod flows;
 mod numbers;
+mod options;
 mod peak_words;
+#[cfg(test)]
+mod take_tests;
+mod take_words;
 #[cfg(test)]
 mod tests;
 mod words;
 
+pub use take_words::TakeOptions;
 pub use words::{Command, command_of};

@@ -5,6 +5,7 @@ ghost use Rattle.mmt_command.specs.Commands.{Asks, IsCommand};
 
 use crate::numbers::is_at;
 use crate::peak_words::peak_of;
+use crate::take_words::{TakeOptions, take_of};
 use mmt_model::{FlowChoice, Params};
 
 /// A command, with its options.
@@ -14,6 +15,8 @@ pub enum Command {
     List,
     /// Reads a stream, and writes what a receiver's buffer would have held of it.
     Peak { flow: FlowChoice, params: Params },
+    /// Reads a stream, and writes a record for each unit that a receiver hands out.
+    Take(TakeOptions),
 }
 
 // The same of words that begin with `list`.
@@ -40,6 +43,9 @@ pub fn command_of(words: &[String]) -> Result<Command, u32>
     }
     if is_at(words, 0, "peak") {
         return peak_of(words);
+    }
+    if is_at(words, 0, "take") {
+        return take_of(words);
     }
     Err(0)
 }

@@ -1,0 +1,10 @@
+pub mod Lines
+pub mod Heads
+pub mod Answered
+pub mod Taken
+pub mod Said
+pub mod Still
+pub mod Next
+pub mod Over
+pub mod Received
+pub mod Ending

@@ -1,0 +1,58 @@
+use Rattle.std.proofs.Common.{Some, ap, sym}
+use Rattle.mmt_packet.specs.Spelling.{view}
+use Rattle.mmt_tune.specs.Tuning.{HeardAt}
+use Rattle.mmt_recv.specs.Receiving.{Holds, State}
+use Rattle.mmt_recv.proofs.Next.{Now, clock_now, handed_lines, holds_next, is_now, notes_now, puts_next, starts_first, starts_next}
+use Rattle.mmt_recv.proofs.receiver.Receiver.take_heard.Goals as goal
+
+pub returns-in-Err-clause-put : goal.returns-in-Err-clause-put
+returns-in-Err-clause-put g c = λ told session holds before.
+    let r = c.self.inside in
+    let s : State = record { config = r.config; headers = r.hearer; tuned = r.tuned; pool = r.pool; names = r.names; handed = record { units = r.counts.units; bytes = r.counts.bytes }; losses = record { late = r.counts.late; repeat = r.counts.repeat; full = r.counts.full } } in
+    let h : HeardAt = record { place = c.args.place; packet = view c.args.packet.now } in
+    let o : Holds s session c.args.tuned.params = rw c.self.view_is holds in
+    rw (sym c.self.view_is) (starts_first _ _ _ _ _ (handed_lines s c.args.tuned.params session h c.args.tuned.clock.0 c.advance-clock.result.0 o before c.advance-clock.ensures) (c.in-Err.ensures.put told))
+
+pub returns-in-Err-take_packet-clause-put : goal.returns-in-Err-take_packet-clause-put
+returns-in-Err-take_packet-clause-put g c = λ told session holds before.
+    let r = c.self.inside in
+    let s : State = record { config = r.config; headers = r.hearer; tuned = r.tuned; pool = r.pool; names = r.names; handed = record { units = r.counts.units; bytes = r.counts.bytes }; losses = record { late = r.counts.late; repeat = r.counts.repeat; full = r.counts.full } } in
+    let h : HeardAt = record { place = c.args.place; packet = view c.args.packet.now } in
+    let o : Holds s session c.args.tuned.params = rw c.self.view_is holds in
+    let e = c.in-Ok.ensures in
+    let n : Now s.config c.args.tuned.params session h c.advance_to.new.pool c.advance_to.new.names c.advance-clock.result.0 =
+    is_now s c.args.tuned.params session h c.advance_to.new.pool c.advance_to.new.names c.args.tuned.clock.0 c.advance-clock.result.0 o before c.advance-clock.ensures e.names e.kept e.bound in
+    rw (sym c.self.view_is)
+    (starts_next _ _ _ _ _ _ _ (handed_lines s c.args.tuned.params session h c.args.tuned.clock.0 c.advance-clock.result.0 o before c.advance-clock.ensures)
+    (notes_now s.config c.args.tuned.params session h c.advance_to.new.pool c.advance_to.new.names c.advance-clock.result.0 n)
+    (e.put told) (c.in-Err-take_packet.ensures.put (rw e.tells told)))
+
+pub returns-clause-tuned : goal.returns-clause-tuned
+returns-clause-tuned g c = λ session before.
+    ap (λ n. Some (record { params = c.args.tuned.params; clock = record { 0 = n } })) (clock_now session (record { place = c.args.place; packet = view c.args.packet.now }) c.args.tuned.clock.0 c.advance-clock.result.0 before c.advance-clock.ensures)
+
+pub returns-clause-holds : goal.returns-clause-holds
+returns-clause-holds g c = λ session holds before.
+    let r = c.self.inside in
+    let s : State = record { config = r.config; headers = r.hearer; tuned = r.tuned; pool = r.pool; names = r.names; handed = record { units = r.counts.units; bytes = r.counts.bytes }; losses = record { late = r.counts.late; repeat = r.counts.repeat; full = r.counts.full } } in
+    let h : HeardAt = record { place = c.args.place; packet = view c.args.packet.now } in
+    let o : Holds s session c.args.tuned.params = rw c.self.view_is holds in
+    let e = c.in-Ok.ensures in
+    let n : Now s.config c.args.tuned.params session h c.advance_to.new.pool c.advance_to.new.names c.advance-clock.result.0 =
+    is_now s c.args.tuned.params session h c.advance_to.new.pool c.advance_to.new.names c.args.tuned.clock.0 c.advance-clock.result.0 o before c.advance-clock.ensures e.names e.kept e.bound in
+    holds_next s _ _ c.take_packet.new.pool c.take_packet.new.names c.in-Ok.handed _ _ c.args.tuned.params session h c.advance_to.new.pool c.advance_to.new.names c.args.tuned.clock.0 c.advance-clock.result.0 _
+    o n before (ap (λ x. x.sample_base) e.names) e.peak c.in-Ok-take_packet.ensures.takes c.in-Ok-take_packet.ensures.outcome e.counts c.count-self-inside.ensures.handed c.count-self-inside.ensures.losses
+
+pub returns-clause-put : goal.returns-clause-put
+returns-clause-put g c = λ told session holds before.
+    let r = c.self.inside in
+    let s : State = record { config = r.config; headers = r.hearer; tuned = r.tuned; pool = r.pool; names = r.names; handed = record { units = r.counts.units; bytes = r.counts.bytes }; losses = record { late = r.counts.late; repeat = r.counts.repeat; full = r.counts.full } } in
+    let h : HeardAt = record { place = c.args.place; packet = view c.args.packet.now } in
+    let o : Holds s session c.args.tuned.params = rw c.self.view_is holds in
+    let e = c.in-Ok.ensures in
+    let n : Now s.config c.args.tuned.params session h c.advance_to.new.pool c.advance_to.new.names c.advance-clock.result.0 =
+    is_now s c.args.tuned.params session h c.advance_to.new.pool c.advance_to.new.names c.args.tuned.clock.0 c.advance-clock.result.0 o before c.advance-clock.ensures e.names e.kept e.bound in
+    rw (sym c.self.view_is)
+    (puts_next _ _ _ _ _ _ _ (handed_lines s c.args.tuned.params session h c.args.tuned.clock.0 c.advance-clock.result.0 o before c.advance-clock.ensures)
+    (notes_now s.config c.args.tuned.params session h c.advance_to.new.pool c.advance_to.new.names c.advance-clock.result.0 n)
+    (e.put told) (c.in-Ok-take_packet.ensures.put (rw e.tells told)))

@@ -1,0 +1,6 @@
+pub mod Session
+pub mod Noting
+pub mod Receiving
+pub mod Keeping
+pub mod Taking
+pub mod Saying

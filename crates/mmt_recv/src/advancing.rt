@@ -1,0 +1,80 @@
+//! The clock goes on: what is due is handed out, entries are forgotten, and packets leave the window.
+
+ghost use Rattle.std.specs.Prelude.{◌≡◌, ◌≤◌, map, filter, IsTrue, IsErr, IfOk, OnOk};
+ghost use Rattle.mmt_io.specs.Port.{Rose};
+ghost use Rattle.mmt_model.specs.Entries.{forget as forgotten};
+ghost use Rattle.mmt_model.specs.Handing.{due_units};
+ghost use Rattle.mmt_model.specs.Units.{units_of};
+ghost use Rattle.mmt_output.specs.Putting.{only_written, Put};
+ghost use Rattle.mmt_output.specs.Records.{amount_of, records};
+ghost use Rattle.mmt_pool.specs.Holding.{held, is_in_window};
+ghost use Rattle.mmt_runs.specs.Reading.{heard};
+ghost use Rattle.mmt_runs.specs.Told.{IsTold};
+
+use crate::keeping::expire;
+use mmt_base::Tick;
+use mmt_io::{Fault, Port};
+use mmt_output::{Handed, hand_out};
+use mmt_pool::Pool;
+use mmt_runs::Runs;
+use mmt_times::Names;
+
+// Hands out what is due where the clock goes from one tick to another; nothing is where it stays.
+fn hand_out_due<P: Port>(
+    port: &mut P,
+    pool: &Pool,
+    names: &Names,
+    runs: &Runs,
+    from: Tick,
+    to: Tick,
+) -> Result<Handed, Fault>
+    requires { IsTold runs.now pool.now.kept names.now }
+    ensures tells { P.tells port.new ≡ P.tells port.old }
+    ensures reads { P.read_faults port.new ≡ P.read_faults port.old }
+    ensures writes { P.write_faults port.old ≤ P.write_faults port.new }
+    ensures cause { IsErr result → Rose (P.write_faults port.old) (P.write_faults port.new) }
+    ensures left { IsTrue (P.tells port.old) → P.left port.new ≡ P.left port.old }
+    ensures put { IsTrue (P.tells port.old) → Put (P.history port.old) (P.history port.new) (only_written (records (due_units names.now.sample_base names.now.entries (units_of (map heard pool.now.kept)) from.0 to.0))) result }
+    ensures counts { IfOk result (λ handed. handed ≡ amount_of (due_units names.now.sample_base names.now.entries (units_of (map heard pool.now.kept)) from.0 to.0)) }
+{
+    if to.ahead_of(from) == 0 {
+        return Ok(Handed::nothing());
+    }
+    hand_out(port, pool, names, runs, from, to)
+}
+
+/// Takes the clock from one tick to another: hands out the units that are due, in their order, then
+/// forgets the entries of which the last due tick is passed, and then lets go of the packets that are
+/// out of the window.
+pub(crate) fn advance_to<P: Port>(
+    port: &mut P,
+    pool: &mut Pool,
+    names: &mut Names,
+    runs: &mut Runs,
+    from: Tick,
+    to: Tick,
+    window: u32,
+) -> Result<Handed, Fault>
+    requires { IsTold runs.old pool.old.kept names.old }
+    ensures tells { P.tells port.new ≡ P.tells port.old }
+    ensures reads { P.read_faults port.new ≡ P.read_faults port.old }
+    ensures writes { P.write_faults port.old ≤ P.write_faults port.new }
+    ensures cause { IsErr result → Rose (P.write_faults port.old) (P.write_faults port.new) }
+    ensures left { IsTrue (P.tells port.old) → P.left port.new ≡ P.left port.old }
+    ensures put { IsTrue (P.tells port.old) → Put (P.history port.old) (P.history port.new) (only_written (records (due_units names.old.sample_base names.old.entries (units_of (map heard pool.old.kept)) from.0 to.0))) result }
+    ensures counts { IfOk result (λ handed. handed ≡ amount_of (due_units names.old.sample_base names.old.entries (units_of (map heard pool.old.kept)) from.0 to.0)) }
+    ensures told { OnOk result (IsTold runs.new pool.new.kept names.new) }
+    ensures names { OnOk result (names.new ≡ record { entries = forgotten from.0 to.0 names.old.entries; sample_base = names.old.sample_base }) }
+    ensures kept { OnOk result (pool.new.kept ≡ filter (is_in_window to.0 window) pool.old.kept) }
+    ensures bound { OnOk result (pool.new.bound ≡ pool.old.bound) }
+    ensures peak { OnOk result (pool.new.peak ≡ pool.old.peak) }
+    ensures held { OnOk result (held pool.new.kept ≤ pool.new.peak) }
+{
+    let handed = match hand_out_due(port, pool, names, runs, from, to) {
+        Ok(handed) => handed,
+        Err(fault) => return Err(fault),
+    };
+    names.forget(from, to);
+    expire(pool, runs, names, to, window);
+    Ok(handed)
+}

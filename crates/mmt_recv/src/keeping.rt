@@ -1,0 +1,53 @@
+//! Which packets are kept.
+
+ghost use Rattle.std.specs.Prelude.{◌≡◌, ◌≤◌, ◌<◌, ◌^◌, true, filter, length};
+ghost use Rattle.mmt_pool.specs.Doing.{of_packet};
+ghost use Rattle.mmt_pool.specs.Holding.{held, is_in_window};
+ghost use Rattle.mmt_runs.specs.Reading.{heard};
+ghost use Rattle.mmt_runs.specs.Told.{IsTold};
+ghost use Rattle.mmt_recv.specs.Keeping.{Keeps, UnlessNoMemory};
+
+use mmt_base::Tick;
+use mmt_packet::Packet;
+use mmt_pool::{NotStored, Pool, Span};
+use mmt_runs::Runs;
+use mmt_times::Names;
+
+/// Lets go of every packet whose timestamp plus the window is not after the clock.
+pub(crate) fn expire(pool: &mut Pool, runs: &mut Runs, names: &Names, clock: Tick, window: u32)
+    requires { IsTold runs.old pool.old.kept names.now }
+    ensures told { IsTold runs.new pool.new.kept names.now }
+    ensures kept { pool.new.kept ≡ filter (is_in_window clock.0 window) pool.old.kept }
+    ensures bound { pool.new.bound ≡ pool.old.bound }
+    ensures peak { pool.new.peak ≡ pool.old.peak }
+    ensures held { held pool.new.kept ≤ pool.new.peak }
+{
+    'packets: while let Some(span) = pool.expire_one(clock, window) {
+        runs.removed(span);
+    }
+}
+
+/// Keeps a packet with an accepted payload, unless it is late, a repeat, or there is no room for it.
+pub(crate) fn keep(
+    pool: &mut Pool,
+    runs: &mut Runs,
+    names: &Names,
+    clock: Tick,
+    delay: u32,
+    packet: &Packet<'_>,
+) -> Result<Span, NotStored>
+    requires told { IsTold runs.old pool.old.kept names.now }
+    requires opened { (heard (of_packet packet.now)).is_opened ≡ true }
+    requires short { length packet.now.payload.now < 2 ^ 31 }
+    ensures told { UnlessNoMemory result (IsTold runs.new pool.new.kept names.now) }
+    ensures keeps { Keeps delay clock.0 pool.old (of_packet packet.now) result pool.new }
+{
+    let span = match pool.store(clock, delay, packet.payload, 0, packet) {
+        Ok(span) => span,
+        Err(reason) => return Err(reason),
+    };
+    match runs.added(pool, span, names) {
+        Ok(()) => Ok(span),
+        Err(_) => Err(NotStored::OutOfMemory),
+    }
+}

@@ -1,0 +1,6 @@
+//! The command `take`: the media units that a receiver hands out of a stream.
+#![tactic(auto)]
+
+mod command;
+
+pub use command::TakeCommand;
