@@ -2,7 +2,7 @@
 
 /// The page of help.
 pub const HELP: &str = "\
-mmt: lists and measures a capture of MMT over TLV
+mmt: lists, measures and receives a stream of MMT over TLV
 
 usage: mmt COMMAND, mmt --help, mmt --version
 

@@ -323,9 +323,10 @@ impl Receiver {
         }
     }
 
-    /// How many payload bytes are kept.
+    /// How many payload bytes are kept: never more than the bound.
     pub fn held(&self) -> u32
-        ensures { result ≡ held_bytes self.now.pool.kept }
+        ensures sum { result ≡ held_bytes self.now.pool.kept }
+        ensures bounded { result ≤ self.now.pool.bound }
     {
         self.pool.held()
     }
