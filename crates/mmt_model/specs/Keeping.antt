@@ -1,5 +1,5 @@
 -- The clock, lateness and the kept packets. A history is a list of heard packets, the newest first.
-use Rattle.std.specs.Prelude.{ℕ, ◌+◌, max, Bool, not, ◌&&◌, ◌||◌, nat_lt, ◌==◌, List, [], ◌∷◌, if◌then◌else◌}
+use Rattle.std.specs.Prelude.{ℕ, ◌+◌, max, Bool, true, false, not, ◌&&◌, ◌||◌, nat_lt, ◌==◌, List, [], ◌∷◌, if◌then◌else◌}
 use Rattle.std.specs.List.{filter, sum_by, list_any}
 use Rattle.mmt_base.specs.Ticks.{advance, is_after, plus}
 use Rattle.mmt_model.specs.Packets.{Heard}
@@ -34,6 +34,38 @@ pub data Outcome : Type 0 where
   Repeat : Outcome
   Full : Outcome
   Stored : Outcome
+
+-- the packet is stored
+abbrev pub is_stored : Outcome → Bool
+is_stored Outcome.Stored = true
+is_stored Outcome.Unopened = false
+is_stored Outcome.Late = false
+is_stored Outcome.Repeat = false
+is_stored Outcome.Full = false
+
+-- the packet came too late
+abbrev pub is_late : Outcome → Bool
+is_late Outcome.Late = true
+is_late Outcome.Unopened = false
+is_late Outcome.Repeat = false
+is_late Outcome.Full = false
+is_late Outcome.Stored = false
+
+-- the packet is kept already
+abbrev pub is_repeated : Outcome → Bool
+is_repeated Outcome.Repeat = true
+is_repeated Outcome.Unopened = false
+is_repeated Outcome.Late = false
+is_repeated Outcome.Full = false
+is_repeated Outcome.Stored = false
+
+-- there is no room for the packet
+abbrev pub is_full : Outcome → Bool
+is_full Outcome.Full = true
+is_full Outcome.Unopened = false
+is_full Outcome.Late = false
+is_full Outcome.Repeat = false
+is_full Outcome.Stored = false
 
 -- what becomes of a packet at this clock, where `rest` is still kept: the first of the four cases that fits, and else it is stored (this project's rule, after the HRBM of ISO/IEC 23008-1)
 unfoldable pub outcome : Params → ℕ → List Heard → Heard → Outcome

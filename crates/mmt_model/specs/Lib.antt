@@ -1,7 +1,9 @@
 pub mod Sorted
 pub mod Counts
+pub mod Parts
 pub mod Packets
 pub mod Keeping
+pub mod Sessions
 pub mod Entries
 pub mod Units
 pub mod Handing

@@ -1,5 +1,8 @@
 //! Parts and keys of data units.
 
+ghost use Rattle.std.specs.Prelude.{◌≡◌};
+ghost use Rattle.mmt_model.specs.Parts.{part_number, part_of};
+
 /// Which part of a data unit or of a message a payload carries (ISO/IEC 23008-1, the fragmentation
 /// indicator of an MPU payload and of a signalling payload).
 #[derive(Clone, Copy, Debug, PartialEq, Eq)]
@@ -12,6 +15,32 @@ pub enum Part {
     Middle,
     /// The last part.
     Last,
+}
+
+impl Part {
+    /// The fragmentation indicator f_i of the part, of two bits.
+    pub fn indicator(self) -> u8
+        ensures { result ≡ part_number self }
+    {
+        match self {
+            Part::Whole => 0,
+            Part::First => 1,
+            Part::Middle => 2,
+            Part::Last => 3,
+        }
+    }
+
+    /// The part that a fragmentation indicator below 4 stands for.
+    pub fn from_indicator(number: u8) -> Part
+        ensures { result ≡ part_of number }
+    {
+        match number {
+            0 => Part::Whole,
+            1 => Part::First,
+            2 => Part::Middle,
+            _ => Part::Last,
+        }
+    }
 }
 
 /// Which data unit of its MPU a unit is (ISO/IEC 23008-1, the data unit header).

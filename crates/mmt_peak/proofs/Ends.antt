@@ -59,13 +59,3 @@ fails old new line (inr (part, rest, split, grown)) = record {
       ap (λ o. followed o (output_of (Out part ∷ []))) (none_before done is) ∙ ap (λ (bytes : List ℕ). record { written = bytes; noted = [] }) (append-nil part) in
       subst (λ o. IsStartOf o (record { written = line; noted = [] })) (sym out) (record { written = (rest, split); noted = ([], refl) });
 }
-
--- one item more is the newest
-onto_more : {X : Type 0} (xs older : List X) (x : X) → onto (xs ++ x ∷ []) older ≡ x ∷ onto xs older
-unfolding onto
-onto_more [] older x = refl
-onto_more (y ∷ ys) older x = onto_more ys (y ∷ older) x
-
-pub newest_more : {X : Type 0} (xs : List X) (x : X) → newest_first (xs ++ x ∷ []) ≡ x ∷ newest_first xs
-unfolding newest_first
-newest_more xs x = onto_more xs [] x
