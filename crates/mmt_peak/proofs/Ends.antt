@@ -3,7 +3,6 @@ use Rattle.std.proofs.Common.{◌≡◌, ◌⊎◌, inl, inr, ℕ, List, [], ◌
 use Rattle.std.proofs.lemmas.List.{append-nil}
 use Rattle.mmt_io.specs.History.{Event}
 use Rattle.mmt_io.specs.History.Event.{Out}
-use Rattle.mmt_model.specs.Delivery.{onto, newest_first}
 use Rattle.mmt_stream.specs.Output.{Output, nothing, followed, output_of, IsStartOf}
 use Rattle.mmt_stream.specs.Consuming.{Emits, EmitsStart}
 use Rattle.mmt_stream.proofs.Outputs.{followed-nothing}

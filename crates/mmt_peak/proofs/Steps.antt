@@ -1,30 +1,22 @@
 -- One heard packet more, in the words of the definition of keeping.
-use Rattle.std.proofs.Common.{◌≡◌, ℕ, ◌+◌, ◌-◌, ◌^◌, ◌≤◌, min, max, Bool, true, false, cond, List, [], ◌∷◌, map, length, filter, Option, Some, refl, sym, ap, subst, ◌∙◌, arith, zero-add}
+use Rattle.std.proofs.Common.{◌≡◌, ℕ, ◌+◌, ◌-◌, ◌^◌, ◌≤◌, min, max, Bool, true, false, cond, List, [], ◌∷◌, map, length, filter, Option, Some, refl, sym, ap, subst, ◌∙◌, arith}
 use Rattle.std.specs.Prelude.{count_by}
 use Rattle.std.proofs.lemmas.List.Sums.{sum_by-cons}
 use Rattle.mmt_base.specs.Ticks.{advance}
 use Rattle.mmt_model.specs.declared.programmes.Params.{Params}
 use Rattle.mmt_model.specs.Packets.{Heard}
-use Rattle.mmt_model.specs.Keeping.{Outcome, outcome, clock, still_kept, kept, kept_after, peak, bytes_of}
+use Rattle.mmt_model.specs.Counts.{counted}
+use Rattle.mmt_model.specs.Keeping.{Outcome, outcome, clock, is_full, is_late, is_repeated, is_stored, still_kept, kept, kept_after, bytes_of}
+use Rattle.mmt_model.specs.Sessions.{clock_of, outcome_at, outcomes, rest_at, start_of}
+use Rattle.mmt_model.proofs.Outcomes.{no_more, one_more}
+use Rattle.mmt_model.proofs.Sessions.{kept_next, peak_next}
 use Rattle.mmt_pool.specs.Holding.{Kept, Holding, held, size_of, is_in_window}
 use Rattle.mmt_pool.specs.Outcome.{Shows}
 use Rattle.mmt_pool.proofs.Model.{rest-shown}
-use Rattle.mmt_peak.specs.Peaking.{counted, start_of, outcomes, is_stored, is_late, is_repeated, is_full}
 use Rattle.mmt_peak.specs.Buffers.{shown, Tally, tallied, tally_of, clock_with, clock_after, HasTaken}
 
 pub shows : Shows shown
 shows = record { time = λ p. refl; packet_id = λ p. refl; number = λ p. refl; length = λ p. refl }
-
--- the clock at a packet after a history
-abbrev pub now_at : Heard → List Heard → ℕ
-now_at h history = clock (start_of (h ∷ history)) (h ∷ history)
-
--- what is still kept then, and what becomes of the packet
-abbrev pub rest_at : Params → Heard → List Heard → List Heard
-rest_at r h history = still_kept r (now_at h history) (kept r (start_of history) history)
-
-abbrev pub outcome_at : Params → Heard → List Heard → Outcome
-outcome_at r h history = outcome r (now_at h history) (rest_at r h history) h
 
 same_either : (b : Bool) (t : ℕ) → cond b t t ≡ t
 same_either true t = refl
@@ -34,41 +26,10 @@ advance_same : (t : ℕ) → advance t t ≡ t
 unfolding advance
 advance_same t = same_either _ t
 
-pub clock_is : (h : Heard) (history : List Heard) → clock_with (clock_after history) h.time ≡ now_at h history
+pub clock_is : (h : Heard) (history : List Heard) → clock_with (clock_after history) h.time ≡ clock_of (h ∷ history)
 unfolding clock
 clock_is h [] = sym (advance_same h.time)
 clock_is h (g ∷ older) = refl
-
-pub kept_is : (r : Params) (h : Heard) (history : List Heard) → kept r (start_of (h ∷ history)) (h ∷ history) ≡ kept_after (outcome_at r h history) (rest_at r h history) h
-unfolding kept
-kept_is r h [] = refl
-kept_is r h (g ∷ older) = refl
-
-pub peak_is : (r : Params) (h : Heard) (history : List Heard) → peak r (start_of (h ∷ history)) (h ∷ history) ≡ max (peak r (start_of history) history) (bytes_of (kept r (start_of (h ∷ history)) (h ∷ history)))
-unfolding peak
-peak_is r h [] = refl
-peak_is r h (g ∷ older) = refl
-
-pub outcomes_are : (r : Params) (h : Heard) (history : List Heard) → outcomes r (start_of (h ∷ history)) (h ∷ history) ≡ outcome_at r h history ∷ outcomes r (start_of history) history
-unfolding kept
-outcomes_are r h [] = refl
-outcomes_are r h (g ∷ older) = refl
-
-count_cons : {X : Type 0} (p : X → Bool) (x : X) (xs : List X) → count_by p (x ∷ xs) ≡ cond (p x) 1 0 + count_by p xs
-count_cons p x xs = sum_by-cons (λ y. cond (p y) 1 0) x xs
-
-no_more : (p : Outcome → Bool) (f : Outcome) (fs : List Outcome) → p f ≡ false → counted (count_by p fs) ≡ counted (count_by p (f ∷ fs))
-no_more p f fs fails =
-    let e : count_by p (f ∷ fs) ≡ 0 + count_by p fs = count_cons p f fs ∙ ap (λ (b : Bool). cond b 1 0 + count_by p fs) fails in
-    ap counted (sym (e ∙ zero-add (count_by p fs)))
-
-one_more : (p : Outcome → Bool) (f : Outcome) (fs : List Outcome) → p f ≡ true → counted (counted (count_by p fs) + 1) ≡ counted (count_by p (f ∷ fs))
-one_more p f fs holds =
-    let e : count_by p (f ∷ fs) ≡ 1 + count_by p fs = count_cons p f fs ∙ ap (λ (b : Bool). cond b 1 0 + count_by p fs) holds in
-    rw e (more (count_by p fs))
-  where
-    more : (n : ℕ) → counted (counted n + 1) ≡ counted (1 + n)
-    more n = omega arith
 
 abbrev tally_by : List Outcome → Tally
 tally_by fs = record { stored = counted (count_by is_stored fs); late = counted (count_by is_late fs); repeats = counted (count_by is_repeated fs); full = counted (count_by is_full fs) }
@@ -85,7 +46,7 @@ tally_more Outcome.Full fs = same_tally _ _ _ _ _ _ _ _ (no_more is_stored Outco
 tally_more Outcome.Stored fs = same_tally _ _ _ _ _ _ _ _ (one_more is_stored Outcome.Stored fs refl) (no_more is_late Outcome.Stored fs refl) (no_more is_repeated Outcome.Stored fs refl) (no_more is_full Outcome.Stored fs refl)
 
 tally_is : (r : Params) (h : Heard) (history : List Heard) → tallied (outcome_at r h history) (tally_of r history) ≡ tally_of r (h ∷ history)
-tally_is r h history = tally_more (outcome_at r h history) (outcomes r (start_of history) history) ∙ ap tally_by (sym (outcomes_are r h history))
+tally_is r h history = tally_more (outcome_at r h history) (outcomes r history)
 
 held_is : (packets : List Kept) → bytes_of (map shown packets) ≡ held packets
 held_is [] = refl
@@ -106,17 +67,17 @@ pub taken : (history : List Heard) (h : Heard) (r : Params) (old mid new : Holdi
     → new.bound ≡ mid.bound → new.peak ≡ max mid.peak (held new.kept)
     → HasTaken (h ∷ history) (record { params = r; pool = new; clock = Some (clock_with before h.time); heard = min (heard + 1) (2 ^ 64 - 1); tally = tallied f tally })
 taken history h r old mid new f before heard tally t mid_kept mid_bound mid_peak becomes new_kept new_bound new_peak =
-    let now : clock_with before h.time ≡ now_at h history = ap (λ c. clock_with c h.time) t.clock ∙ clock_is h history in
+    let now : clock_with before h.time ≡ clock_of (h ∷ history) = ap (λ c. clock_with c h.time) t.clock ∙ clock_is h history in
     let rest : map shown mid.kept ≡ rest_at r h history =
     ap (map shown) mid_kept ∙ (sym (rest-shown shown shows r (clock_with before h.time) old.kept) ∙ (λ i. still_kept r (now i) (t.kept i))) in
     let here : outcome_at r h history ≡ f = sym (λ i. outcome r (now i) (rest i) h) ∙ becomes in
     let kept' : map shown new.kept ≡ kept r (start_of (h ∷ history)) (h ∷ history) =
-    new_kept ∙ ((λ i. kept_after (sym here i) (rest i) h) ∙ sym (kept_is r h history)) in
+    new_kept ∙ ((λ i. kept_after (sym here i) (rest i) h) ∙ sym (kept_next r h history)) in
     record {
       bound = new_bound ∙ (mid_bound ∙ t.bound);
       clock = ap Some now;
       kept = kept';
-      peak = new_peak ∙ ((λ i. max ((mid_peak ∙ t.peak) i) ((sym (held_is new.kept) ∙ ap bytes_of kept') i)) ∙ sym (peak_is r h history));
+      peak = new_peak ∙ ((λ i. max ((mid_peak ∙ t.peak) i) ((sym (held_is new.kept) ∙ ap bytes_of kept') i)) ∙ sym (peak_next r h history));
       heard = ap (λ n. min (n + 1) (2 ^ 64 - 1)) t.heard ∙ (heard_more (length history) ∙ ap counted (sym (length_more h history)));
       tally = (λ i. tallied (sym here i) (t.tally i)) ∙ tally_is r h history;
     }

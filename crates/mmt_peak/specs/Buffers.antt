@@ -3,9 +3,10 @@ use Rattle.std.specs.Prelude.{◌≡◌, ℕ, ◌+◌, true, List, [], ◌∷◌
 use Rattle.mmt_base.specs.Ticks.{advance}
 use Rattle.mmt_model.specs.declared.programmes.Params.{Params}
 use Rattle.mmt_model.specs.Packets.{Heard, Payload}
-use Rattle.mmt_model.specs.Keeping.{Outcome, clock, kept, peak}
+use Rattle.mmt_model.specs.Keeping.{Outcome, clock, is_full, is_late, is_repeated, is_stored, kept, peak}
 use Rattle.mmt_pool.specs.Holding.{Kept, Holding}
-use Rattle.mmt_peak.specs.Peaking.{counted, start_of, outcomes, is_stored, is_late, is_repeated, is_full}
+use Rattle.mmt_model.specs.Counts.{counted}
+use Rattle.mmt_model.specs.Sessions.{outcomes, start_of}
 
 -- a kept packet as the definition of keeping sees it
 abbrev pub shown : Kept → Heard
@@ -29,10 +30,10 @@ tallied Outcome.Stored t = record t { stored = counted (t.stored + 1) }
 -- the counts of heard packets
 abbrev pub tally_of : Params → List Heard → Tally
 tally_of r history = record {
-  stored = counted (count_by is_stored (outcomes r (start_of history) history));
-  late = counted (count_by is_late (outcomes r (start_of history) history));
-  repeats = counted (count_by is_repeated (outcomes r (start_of history) history));
-  full = counted (count_by is_full (outcomes r (start_of history) history));
+  stored = counted (count_by is_stored (outcomes r history));
+  late = counted (count_by is_late (outcomes r history));
+  repeats = counted (count_by is_repeated (outcomes r history));
+  full = counted (count_by is_full (outcomes r history));
 }
 
 -- a buffer: its delay, window and bound, its pool, the clock once a packet was heard, and the counts

@@ -4,7 +4,8 @@ use Rattle.mmt_model.specs.declared.programmes.FlowChoice.{FlowChoice}
 use Rattle.mmt_tlv.specs.Framing.{Packet}
 use Rattle.mmt_ip.specs.declared.packet.Ip6Header.{Ip6Header}
 use Rattle.mmt_hear.specs.Views.{HasHeard}
-use Rattle.mmt_peak.specs.Peaking.{Numbers, counted, heard_packets, heard_as, is_refusal}
+use Rattle.mmt_model.specs.Counts.{counted}
+use Rattle.mmt_peak.specs.Peaking.{Numbers, heard_packets, heard_as, is_refusal}
 use Rattle.mmt_peak.specs.Buffers.{BufferState, HasTaken}
 
 -- the command: the flow that it hears, its headers, its buffer and its count of refused packets

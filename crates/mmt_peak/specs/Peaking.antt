@@ -1,9 +1,11 @@
 -- What `peak` says of a stream: what a receiver's buffer of the given size would have held of it.
-use Rattle.std.specs.Prelude.{ℕ, ◌-◌, ◌^◌, min, Bool, true, false, not, ◌&&◌, ◌==◌, List, [], ◌∷◌, ◌++◌, length, codes, decimal, count_by}
+use Rattle.std.specs.Prelude.{ℕ, Bool, true, false, not, ◌&&◌, ◌==◌, List, [], ◌∷◌, ◌++◌, length, codes, decimal, count_by}
 use Rattle.mmt_model.specs.declared.programmes.FlowChoice.{FlowChoice}
 use Rattle.mmt_model.specs.declared.programmes.Params.{Params}
 use Rattle.mmt_model.specs.Packets.{Heard, Payload}
-use Rattle.mmt_model.specs.Keeping.{Outcome, outcome, clock, still_kept, kept, peak}
+use Rattle.mmt_model.specs.Counts.{counted}
+use Rattle.mmt_model.specs.Keeping.{is_full, is_late, is_repeated, is_stored, peak}
+use Rattle.mmt_model.specs.Sessions.{outcomes, start_of}
 use Rattle.mmt_model.specs.Delivery.{newest_first}
 use Rattle.mmt_tlv.specs.Framing.{Packet}
 use Rattle.mmt_packet.specs.Spelling.{Value as Mmtp}
@@ -41,50 +43,6 @@ abbrev pub heard_as : FlowChoice → List Packet → List Hearing
 heard_as flow [] = []
 heard_as flow (packet ∷ earlier) = hearing flow earlier packet ∷ heard_as flow earlier
 
--- the clock begins at the timestamp of the first heard packet
-abbrev pub start_of : List Heard → ℕ
-start_of [] = 0
-start_of (h ∷ []) = h.time
-start_of (h ∷ g ∷ older) = start_of (g ∷ older)
-
--- what becomes of each heard packet by the definition of keeping, with the newest first
-abbrev pub outcomes : Params → ℕ → List Heard → List Outcome
-outcomes r start [] = []
-outcomes r start (h ∷ older) =
-    (let now = clock start (h ∷ older) in outcome r now (still_kept r now (kept r start older)) h) ∷ outcomes r start older
-
-abbrev pub is_stored : Outcome → Bool
-is_stored Outcome.Stored = true
-is_stored Outcome.Unopened = false
-is_stored Outcome.Late = false
-is_stored Outcome.Repeat = false
-is_stored Outcome.Full = false
-
-abbrev pub is_late : Outcome → Bool
-is_late Outcome.Late = true
-is_late Outcome.Unopened = false
-is_late Outcome.Repeat = false
-is_late Outcome.Full = false
-is_late Outcome.Stored = false
-
-abbrev pub is_repeated : Outcome → Bool
-is_repeated Outcome.Repeat = true
-is_repeated Outcome.Unopened = false
-is_repeated Outcome.Late = false
-is_repeated Outcome.Full = false
-is_repeated Outcome.Stored = false
-
-abbrev pub is_full : Outcome → Bool
-is_full Outcome.Full = true
-is_full Outcome.Unopened = false
-is_full Outcome.Late = false
-is_full Outcome.Repeat = false
-is_full Outcome.Stored = false
-
--- a count stays at 2^64 - 1 once it has come to it
-abbrev pub counted : ℕ → ℕ
-counted n = min n (2 ^ 64 - 1)
-
 -- the numbers of the line
 pub record Numbers : Type 0 where
   pub heard : ℕ
@@ -98,10 +56,10 @@ pub record Numbers : Type 0 where
 abbrev pub numbers_of : Params → List Heard → List Hearing → Numbers
 numbers_of r history hearings = record {
   heard = counted (length history);
-  stored = counted (count_by is_stored (outcomes r (start_of history) history));
-  late = counted (count_by is_late (outcomes r (start_of history) history));
-  repeats = counted (count_by is_repeated (outcomes r (start_of history) history));
-  full = counted (count_by is_full (outcomes r (start_of history) history));
+  stored = counted (count_by is_stored (outcomes r history));
+  late = counted (count_by is_late (outcomes r history));
+  repeats = counted (count_by is_repeated (outcomes r history));
+  full = counted (count_by is_full (outcomes r history));
   refused = counted (count_by is_refusal hearings);
 }
 

@@ -16,7 +16,7 @@ use Rattle.mmt_runs.specs.Reading.{heard}
 use Rattle.mmt_runs.proofs.Handed.{final_due}
 use Rattle.mmt_tune.specs.declared.config.Config.{Config}
 use Rattle.mmt_tune.specs.Tuning.{Placed, heard_of, history, tuned}
-use Rattle.mmt_tune.specs.Sessions.{clock_of}
+use Rattle.mmt_model.specs.Sessions.{clock_of}
 use Rattle.mmt_tune.proofs.Steps.{no_session}
 use Rattle.mmt_output.specs.declared.handed.Handed.{Handed}
 use Rattle.mmt_output.specs.Records.{amount_of}

@@ -1,9 +1,14 @@
+pub mod Within
+pub mod MpuWithin
+pub mod SigWithin
+pub mod Places
 pub mod Lines
 pub mod Heads
 pub mod Answered
 pub mod Taken
 pub mod Said
 pub mod Still
+pub mod Bounded
 pub mod Next
 pub mod Over
 pub mod Received

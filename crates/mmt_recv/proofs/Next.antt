@@ -1,13 +1,13 @@
 -- A heard packet more: what a receiver holds then, in the words of the definitions.
-use Rattle.std.proofs.Common.{◌≡◌, Option, subst, append-nil, ℕ, ◌+◌, max, Bool, true, false, cond, List, ◌∷◌, length, map, filter, refl, ap, sym, ◌∙◌, arith, zero-add}
+use Rattle.std.proofs.Common.{◌≡◌, Option, subst, append-nil, ℕ, max, List, ◌∷◌, length, map, filter, refl, ap, sym, ◌∙◌}
 use Rattle.std.specs.Prelude.{count_by}
-use Rattle.std.proofs.lemmas.List.Sums.{sum_by-cons}
 use Rattle.mmt_base.specs.Ticks.{advance}
 use Rattle.mmt_io.specs.History.{Event}
 use Rattle.mmt_ip.specs.declared.packet.Ip6Header.{Ip6Header}
 use Rattle.mmt_model.specs.declared.programmes.Params.{Params}
 use Rattle.mmt_model.specs.Packets.{Heard}
-use Rattle.mmt_model.specs.Keeping.{Outcome, bytes_of, still_kept}
+use Rattle.mmt_model.specs.Counts.{counted}
+use Rattle.mmt_model.specs.Keeping.{Outcome, bytes_of, is_full, is_late, is_repeated, still_kept}
 use Rattle.mmt_model.specs.Entries.{forget, learn, names_if_stored}
 use Rattle.mmt_model.specs.Handing.{due_units}
 use Rattle.mmt_model.specs.Units.{names_of, units_of}
@@ -17,18 +17,19 @@ use Rattle.mmt_times.specs.Known.{Known}
 use Rattle.mmt_runs.specs.Reading.{heard}
 use Rattle.mmt_tune.specs.declared.config.Config.{Config}
 use Rattle.mmt_tune.specs.Tuning.{HeardAt, heard_as, rules_by}
-use Rattle.mmt_tune.specs.Sessions.{before_of, clock_of}
-use Rattle.mmt_tune.proofs.Steps.{clock_next, entries_next, handed_is, kept_next, out_next, peak_next}
+use Rattle.mmt_model.specs.Sessions.{before_of, clock_of, outcomes}
+use Rattle.mmt_model.proofs.Outcomes.{no_more, one_more}
+use Rattle.mmt_model.proofs.Sessions.{clock_next, entries_next, handed_is, kept_next, out_next, peak_next}
 use Rattle.mmt_naming.specs.Findings.{findings_by, names_in, notes_of}
 use Rattle.mmt_output.specs.declared.handed.Handed.{Handed}
-use Rattle.mmt_output.specs.Records.{amount_of, counted, records}
+use Rattle.mmt_output.specs.Records.{amount_of, records}
 use Rattle.mmt_output.specs.Putting.{only_noted, only_written, Puts, PutsStart}
 use Rattle.mmt_output.proofs.Putting.{puts_and_start, puts_both, start_of_part}
 use Rattle.mmt_output.proofs.Amounts.{amounts_joined}
 use Rattle.mmt_recv.specs.Noting.{at_place, kind_notes, lines_of, outcome_notes, payload_place, tuned_notes}
 use Rattle.mmt_recv.specs.Session.{entries_by, handed_of, kept_by, live_of, out_of, outcome_of, peak_by, reading_of, rest_of}
 use Rattle.mmt_recv.specs.declared.summary.Tuned.{Tuned}
-use Rattle.mmt_recv.specs.Receiving.{Holds, Losses, State, handed_more, is_full, is_late, is_repeated, losses_of, outcomes_of, with_outcome}
+use Rattle.mmt_recv.specs.Receiving.{Holds, Losses, State, handed_more, losses_of, with_outcome}
 use Rattle.mmt_recv.specs.Taking.{Takes, kept_then, notes_taken, outcome_by}
 use Rattle.mmt_recv.proofs.Answered.{shows}
 use Rattle.mmt_recv.proofs.Taken.{held_is}
@@ -83,22 +84,6 @@ amount_now config values session h old later o l =
 
 -- ---- losses
 
-count_cons : {X : Type 0} (p : X → Bool) (x : X) (xs : List X) → count_by p (x ∷ xs) ≡ cond (p x) 1 0 + count_by p xs
-count_cons p x xs = sum_by-cons (λ y. cond (p y) 1 0) x xs
-
-no_more : (p : Outcome → Bool) (f : Outcome) (fs : List Outcome) → p f ≡ false → counted (count_by p fs) ≡ counted (count_by p (f ∷ fs))
-no_more p f fs fails =
-    let e : count_by p (f ∷ fs) ≡ 0 + count_by p fs = count_cons p f fs ∙ ap (λ (b : Bool). cond b 1 0 + count_by p fs) fails in
-    ap counted (sym (e ∙ zero-add (count_by p fs)))
-
-one_more : (p : Outcome → Bool) (f : Outcome) (fs : List Outcome) → p f ≡ true → counted (counted (count_by p fs) + 1) ≡ counted (count_by p (f ∷ fs))
-one_more p f fs holds =
-    let e : count_by p (f ∷ fs) ≡ 1 + count_by p fs = count_cons p f fs ∙ ap (λ (b : Bool). cond b 1 0 + count_by p fs) holds in
-    rw e (more (count_by p fs))
-  where
-    more : (n : ℕ) → counted (counted n + 1) ≡ counted (1 + n)
-    more n = omega arith
-
 abbrev losses_by : List Outcome → Losses
 losses_by fs = record { late = counted (count_by is_late fs); repeat = counted (count_by is_repeated fs); full = counted (count_by is_full fs) }
 
@@ -114,7 +99,7 @@ losses_more Outcome.Stored fs = same_losses _ _ _ _ _ _ (no_more is_late Outcome
 
 pub losses_now : (config : Config) (values : Params) (session : List Heard) (h : Heard) (old : Losses) (f : Outcome) → old ≡ losses_of config values session → f ≡ outcome_of config values h session
     → with_outcome f old ≡ losses_of config values (h ∷ session)
-losses_now config values session h old f o is = (λ i. with_outcome (is i) (o i)) ∙ losses_more (outcome_of config values h session) (outcomes_of config values session)
+losses_now config values session h old f o is = (λ i. with_outcome (is i) (o i)) ∙ losses_more (outcome_of config values h session) (outcomes (rules_by config values) session)
 
 -- ---- a heard packet more, whole
 

@@ -5,8 +5,9 @@ use Rattle.mmt_model.specs.declared.programmes.Params.{Params}
 use Rattle.mmt_model.specs.Packets.{Heard}
 use Rattle.mmt_tune.specs.declared.config.Config.{Config}
 use Rattle.mmt_tune.specs.Tuning.{HeardAt, heard_as, history, tuned, values_by}
-use Rattle.mmt_tune.specs.Sessions.{before_of, clock_of}
-use Rattle.mmt_tune.proofs.Steps.{before_first, no_session, session_grows, tuned_before, tuned_now}
+use Rattle.mmt_model.specs.Sessions.{before_of, clock_of}
+use Rattle.mmt_model.proofs.Sessions.{before_first}
+use Rattle.mmt_tune.proofs.Steps.{no_session, session_grows, tuned_before, tuned_now}
 use Rattle.mmt_runs.specs.Reading.{heard}
 use Rattle.mmt_stream.specs.Output.{Output}
 use Rattle.mmt_output.specs.Putting.{only_noted}

@@ -16,8 +16,9 @@ use Rattle.mmt_output.specs.Records.{record_of, records}
 use Rattle.mmt_output.specs.Putting.{only_noted}
 use Rattle.mmt_tune.specs.declared.config.Config.{Config}
 use Rattle.mmt_tune.specs.Tuning.{HeardAt, Placed, heard_as, heard_at, heard_of, history, packets_of, rules_by, tuned}
-use Rattle.mmt_tune.specs.Sessions.{start_of}
-use Rattle.mmt_tune.proofs.Steps.{no_session, out_next, session_grows, tuned_before}
+use Rattle.mmt_model.specs.Sessions.{start_of}
+use Rattle.mmt_model.proofs.Sessions.{out_next}
+use Rattle.mmt_tune.proofs.Steps.{no_session, session_grows, tuned_before}
 use Rattle.mmt_recv.specs.Session.{handed_of, reading_of}
 use Rattle.mmt_recv.specs.declared.summary.Ended.{Ended}
 use Rattle.mmt_recv.specs.Noting.{lines_of, noted, notes_of_packet}

@@ -4,3 +4,4 @@ pub mod Receiving
 pub mod Keeping
 pub mod Taking
 pub mod Saying
+pub mod Places

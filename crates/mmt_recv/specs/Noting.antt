@@ -23,7 +23,7 @@ use Rattle.mmt_naming.specs.Findings.{findings_by, notes_of}
 use Rattle.mmt_output.specs.Notes.{note_text}
 use Rattle.mmt_output.specs.declared.notes.Note.{Note}
 use Rattle.mmt_output.specs.declared.notes.Note.TheVariants as notes
-use Rattle.mmt_tune.specs.Sessions.{clock_of}
+use Rattle.mmt_model.specs.Sessions.{clock_of}
 use Rattle.mmt_recv.specs.Session.{rest_of, outcome_of, kept_by, live_of}
 
 -- a note with its place: the count of bytes before it in the stream

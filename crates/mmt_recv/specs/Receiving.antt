@@ -1,24 +1,25 @@
 -- What a receiver puts out for a stream, and what it stands for. Lists of packets have the newest first.
-use Rattle.std.specs.Prelude.{◌≡◌, ℕ, ◌+◌, List, [], ◌∷◌, ◌++◌, map, count_by, Bool, true, false, Option, Some, None}
+use Rattle.std.specs.Prelude.{◌≡◌, ℕ, ◌+◌, ◌≤◌, List, [], ◌∷◌, ◌++◌, map, length, count_by, Option, Some, None}
 use Rattle.mmt_model.specs.declared.programmes.Params.{Params}
 use Rattle.mmt_model.specs.Packets.{Heard}
-use Rattle.mmt_model.specs.Keeping.{Outcome}
+use Rattle.mmt_model.specs.Counts.{counted}
+use Rattle.mmt_model.specs.Keeping.{Outcome, is_full, is_late, is_repeated}
 use Rattle.mmt_model.specs.Handing.{Presentation}
 use Rattle.mmt_ip.specs.declared.packet.Ip6Header.{Ip6Header}
 use Rattle.mmt_hear.specs.Views.{HasHeard}
-use Rattle.mmt_pool.specs.Holding.{Holding}
+use Rattle.mmt_pool.specs.Holding.{Holding, held}
 use Rattle.mmt_times.specs.Known.{Known}
 use Rattle.mmt_runs.specs.Reading.{heard}
 use Rattle.mmt_stream.specs.Output.{Output}
 use Rattle.mmt_output.specs.declared.handed.Handed.{Handed}
-use Rattle.mmt_output.specs.Records.{amount_of, counted, records}
+use Rattle.mmt_output.specs.Records.{amount_of, records}
 use Rattle.mmt_recv.specs.declared.summary.Summary.{Summary}
 use Rattle.mmt_recv.specs.declared.summary.Tuned.{Tuned}
 use Rattle.mmt_tune.specs.declared.config.Config.{Config}
 use Rattle.mmt_hear.specs.Hearing.{Hearing, hearing}
-use Rattle.mmt_tune.specs.Tuning.{HeardAt, Placed, heard_as, packets_of, heard_of, tuned, history}
-use Rattle.mmt_tune.specs.Sessions.{clock_of}
-use Rattle.mmt_recv.specs.Session.{entries_by, final_of, handed_of, kept_by, out_of, outcome_of, peak_by}
+use Rattle.mmt_tune.specs.Tuning.{HeardAt, Placed, heard_as, packets_of, heard_of, rules_by, tuned, history}
+use Rattle.mmt_model.specs.Sessions.{clock_of, outcomes}
+use Rattle.mmt_recv.specs.Session.{entries_by, final_of, handed_of, kept_by, out_of, peak_by}
 use Rattle.mmt_recv.specs.Noting.{heard_notes, lines_of, noted, notes_of_packet}
 
 -- the heard packets of a stream from the one that tunes on
@@ -47,35 +48,6 @@ received config ps = record { written = records (units_out config (session_of co
 abbrev pub all_units : Config → List Placed → List Presentation
 all_units config ps = units_out config (session_of config ps) (values_of config ps) ++ units_left config (session_of config ps) (values_of config ps)
 
--- what becomes of each packet of a session
-abbrev pub outcomes_of : Config → Params → List Heard → List Outcome
-outcomes_of config values [] = []
-outcomes_of config values (h ∷ older) = outcome_of config values h older ∷ outcomes_of config values older
-
--- the packet came too late
-abbrev pub is_late : Outcome → Bool
-is_late Outcome.Late = true
-is_late Outcome.Unopened = false
-is_late Outcome.Repeat = false
-is_late Outcome.Full = false
-is_late Outcome.Stored = false
-
--- the packet is kept already
-abbrev pub is_repeated : Outcome → Bool
-is_repeated Outcome.Repeat = true
-is_repeated Outcome.Unopened = false
-is_repeated Outcome.Late = false
-is_repeated Outcome.Full = false
-is_repeated Outcome.Stored = false
-
--- there is no room for the packet
-abbrev pub is_full : Outcome → Bool
-is_full Outcome.Full = true
-is_full Outcome.Unopened = false
-is_full Outcome.Late = false
-is_full Outcome.Repeat = false
-is_full Outcome.Stored = false
-
 -- how many packets were late, repeated and without room; each number stays at 2^64 - 1
 pub record Losses : Type 0 where
   pub late : ℕ
@@ -85,9 +57,9 @@ pub record Losses : Type 0 where
 -- the numbers of a session
 abbrev pub losses_of : Config → Params → List Heard → Losses
 losses_of config values session = record {
-  late = counted (count_by is_late (outcomes_of config values session));
-  repeat = counted (count_by is_repeated (outcomes_of config values session));
-  full = counted (count_by is_full (outcomes_of config values session));
+  late = counted (count_by is_late (outcomes (rules_by config values) session));
+  repeat = counted (count_by is_repeated (outcomes (rules_by config values) session));
+  full = counted (count_by is_full (outcomes (rules_by config values) session));
 }
 
 -- the values of tuning, and any where there are none yet
@@ -161,6 +133,11 @@ pub record Holds (s : State) (session : List Heard) (values : Params) : Type 0 w
   pub entries : s.names.entries ≡ entries_by s.config values session
   pub handed : s.handed ≡ amount_of (out_of s.config values session)
   pub losses : s.losses ≡ losses_of s.config values session
+
+-- the payload bytes that are kept are at most the configured bound, and at most 1,024 entries live (this project's rule, after the hypothetical receiver buffer model of ISO/IEC 23008-1)
+pub record IsBounded (s : State) : Type 0 where
+  pub bytes : held s.pool.kept ≤ s.config.bound
+  pub live : length s.names.entries ≤ 1024
 
 -- these are the values of tuning, or any where there are none yet
 abbrev pub IsTunedBy : Params → Option Params → Type 0

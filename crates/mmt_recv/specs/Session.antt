@@ -2,13 +2,13 @@
 use Rattle.std.specs.Prelude.{ℕ, List, ◌∷◌}
 use Rattle.mmt_model.specs.declared.programmes.Params.{Params}
 use Rattle.mmt_model.specs.Packets.{Heard}
-use Rattle.mmt_model.specs.Keeping.{Outcome, kept, outcome, peak, still_kept}
+use Rattle.mmt_model.specs.Keeping.{Outcome, kept, peak}
 use Rattle.mmt_model.specs.Entries.{Entry, entries, forget}
 use Rattle.mmt_model.specs.Units.{names_of, units_of}
 use Rattle.mmt_model.specs.Handing.{Presentation, Reading, final, handed, out}
 use Rattle.mmt_tune.specs.declared.config.Config.{Config}
 use Rattle.mmt_tune.specs.Tuning.{rules_by}
-use Rattle.mmt_tune.specs.Sessions.{before_of, clock_of, start_of}
+use Rattle.mmt_model.specs.Sessions.{before_of, clock_of, outcome_at, rest_at, start_of}
 use Rattle.mmt_naming.specs.Findings.{names_in}
 
 -- how names and units are found: in the messages of packet id 0, and in the runs of kept packets
@@ -29,11 +29,11 @@ entries_by config values history = entries (reading_of config).names_by (rules_b
 
 -- what is still kept at a packet behind older ones, before it is stored itself
 abbrev pub rest_of : Config → Params → Heard → List Heard → List Heard
-rest_of config values h older = still_kept (rules_by config values) (clock_of (h ∷ older)) (kept_by config values older)
+rest_of config values h older = rest_at (rules_by config values) h older
 
 -- what becomes of a packet behind older ones
 abbrev pub outcome_of : Config → Params → Heard → List Heard → Outcome
-outcome_of config values h older = outcome (rules_by config values) (clock_of (h ∷ older)) (rest_of config values h older) h
+outcome_of config values h older = outcome_at (rules_by config values) h older
 
 -- which entries live at a packet behind older ones, before it names any
 abbrev pub live_of : Config → Params → Heard → List Heard → List Entry

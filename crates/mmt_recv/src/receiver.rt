@@ -3,7 +3,7 @@
 ghost use Rattle.std.specs.Prelude.{◌≡◌, ◌<◌, ◌≤◌, ◌^◌, ◌+◌, length, IsTrue, IsErrOf, IfOk};
 ghost use Rattle.mmt_io.specs.Port.{Rose};
 ghost use Rattle.mmt_packet.specs.Spelling.{view as mmtp_of, Fits as MmtpFits};
-ghost use Rattle.mmt_recv.specs.Receiving.{Losses, with_outcome};
+ghost use Rattle.mmt_recv.specs.Receiving.{IsBounded, Losses, with_outcome};
 
 use crate::advancing::advance_to;
 use crate::summary::{Ended, Summary, Tuned};
@@ -38,7 +38,8 @@ pub struct Receiver {
 }
 
 impl Model for Receiver {
-    ghost use Rattle.std.specs.Prelude.{◌≤◌};
+    ghost use Rattle.std.specs.Prelude.{◌≡◌, ◌≤◌, length};
+    ghost use Rattle.mmt_pool.specs.Holding.{held};
     ghost use Rattle.mmt_runs.specs.Told.{IsTold};
     ghost use Rattle.mmt_recv.specs.Receiving.{State};
 
@@ -46,7 +47,7 @@ impl Model for Receiver {
 
     ghost view = { λ r. record { config = r.config; headers = r.hearer; tuned = r.tuned; pool = r.pool; names = r.names; handed = record { units = r.counts.units; bytes = r.counts.bytes }; losses = record { late = r.counts.late; repeat = r.counts.repeat; full = r.counts.full } } };
 
-    ghost invariant = { λ r. IsTold r.runs r.pool.kept r.names × (1 ≤ r.config.timescale) };
+    ghost invariant = { λ r. IsTold r.runs r.pool.kept r.names × (1 ≤ r.config.timescale) × (r.pool.bound ≡ r.config.bound) × (held r.pool.kept ≤ r.config.bound) × (length r.names.entries ≤ 1024) };
 }
 
 // The counts once more was handed out and a packet had its outcome.
@@ -96,7 +97,7 @@ ghost use Rattle.mmt_model.specs.Packets.{Heard as HeardPacket};
 ghost use Rattle.mmt_output.specs.Putting.{Put};
 ghost use Rattle.mmt_output.specs.Records.{records};
 ghost use Rattle.mmt_tune.specs.Tuning.{heard_as};
-ghost use Rattle.mmt_tune.specs.Sessions.{before_of, clock_of};
+ghost use Rattle.mmt_model.specs.Sessions.{before_of, clock_of};
 ghost use Rattle.mmt_recv.specs.Noting.{lines_of, tuned_notes};
 ghost use Rattle.mmt_recv.specs.Session.{handed_of};
 
@@ -120,6 +121,7 @@ impl Receiver {
             IfOk result (λ next. next.tuned ≡ Some (record { params = tuned.params; clock = record { 0 = clock_of (heard_as (mmtp_of packet.now) ∷ session) } })) }
         ensures holds { (session : List HeardPacket) → Holds self session tuned.params → tuned.clock.0 ≡ before_of (heard_as (mmtp_of packet.now)) session →
             IfOk result (λ next. Holds next (heard_as (mmtp_of packet.now) ∷ session) tuned.params) }
+        ensures bounded { IfOk result IsBounded }
         ensures tells { P.tells port.new ≡ P.tells port.old }
         ensures reads { P.read_faults port.new ≡ P.read_faults port.old }
         ensures writes { P.write_faults port.old ≤ P.write_faults port.new }
@@ -185,6 +187,7 @@ impl Receiver {
         ensures config { IfOk result (λ next. next.config ≡ self.config) }
         ensures headers { IfOk result (λ next. next.headers ≡ self.headers) }
         ensures over { (hs : List HeardAt) → IsOver self hs → IfOk result (λ next. IsOver next (record { place = place; packet = mmtp_of packet.now } ∷ hs)) }
+        ensures bounded { IfOk result IsBounded }
         ensures tells { P.tells port.new ≡ P.tells port.old }
         ensures reads { P.read_faults port.new ≡ P.read_faults port.old }
         ensures writes { P.write_faults port.old ≤ P.write_faults port.new }
@@ -221,6 +224,7 @@ impl Receiver {
         ensures config { IfOk result (λ next. next.config ≡ self.config) }
         ensures headers { IfOk result (λ next. next.headers ≡ self.headers) }
         ensures over { (hs : List HeardAt) → IsOver self hs → IfOk result (λ next. IsOver next (record { place = place; packet = mmtp_of packet.now } ∷ hs)) }
+        ensures bounded { IfOk result IsBounded }
         ensures tells { P.tells port.new ≡ P.tells port.old }
         ensures reads { P.read_faults port.new ≡ P.read_faults port.old }
         ensures writes { P.write_faults port.old ≤ P.write_faults port.new }
@@ -244,6 +248,8 @@ ghost use Rattle.mmt_tlv.specs.Cutting.{IsPacket};
 ghost use Rattle.mmt_tune.specs.Tuning.{Placed};
 ghost use Rattle.mmt_output.specs.Putting.{only_written};
 ghost use Rattle.mmt_pool.specs.Holding.{held as held_bytes};
+ghost use Rattle.mmt_recv.specs.Noting.{notes_of_packet};
+ghost use Rattle.mmt_recv.specs.Places.{LieBetween};
 ghost use Rattle.mmt_recv.specs.Receiving.{Stands, more, session_of, values_of, units_left, summary_of};
 
 use crate::summary::Failed;
@@ -261,6 +267,7 @@ impl Receiver {
         requires base { config.sample_base ≤ 1 }
         requires timescale { 1 ≤ config.timescale }
         ensures stands { IfOk result (λ r. Stands r []) }
+        ensures bounded { IfOk result IsBounded }
         ensures config { IfOk result (λ r. r.config ≡ config) }
     {
         let hearer = Hearer::new(alloc)?;
@@ -302,6 +309,11 @@ impl Receiver {
         // It stands for the stream with the packet at its end.
         ensures stands { (ps : List Placed) (packet : Tlv) → Stands self ps → Fits packet → tlv.now ≡ spelling packet →
             IfOk result (λ next. Stands next (record { place = place; packet = packet } ∷ ps)) }
+        // Its payload bytes are at most the bound, and at most 1,024 entries live.
+        ensures bounded { IfOk result IsBounded }
+        // Each note lies at the packet's first byte or behind it, and at most directly behind its last.
+        ensures places { (ps : List Placed) (packet : Tlv) → Stands self ps → Fits packet → tlv.now ≡ spelling packet →
+            LieBetween place (place + length tlv.now) (notes_of_packet self.config ps (record { place = place; packet = packet })) }
         ensures tells { P.tells port.new ≡ P.tells port.old }
         ensures reads { P.read_faults port.new ≡ P.read_faults port.old }
         ensures writes { P.write_faults port.old ≤ P.write_faults port.new }

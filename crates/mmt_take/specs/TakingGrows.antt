@@ -10,7 +10,7 @@ use Rattle.mmt_output.proofs.Putting.{start_itself}
 use Rattle.mmt_tune.specs.declared.config.Config.{Config}
 use Rattle.mmt_recv.specs.Receiving.{received, more}
 use Rattle.mmt_recv.proofs.Received.{received_more, received_none}
-use Rattle.mmt_peak.proofs.Ends.{newest_more}
+use Rattle.mmt_model.proofs.Newest.{newest_more}
 use Rattle.mmt_take.specs.Taking.{taking, placed, bytes_of, at_last}
 
 pub placed_none : placed (newest_first []) ≡ []

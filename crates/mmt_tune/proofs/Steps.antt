@@ -1,7 +1,6 @@
 -- One packet more: what tunes.
 use Rattle.std.proofs.Common.{◌≡◌, List, [], ◌∷◌, Option, Some, None, refl}
 use Rattle.mmt_model.specs.declared.programmes.Params.{Params}
-use Rattle.mmt_model.specs.Packets.{Heard}
 use Rattle.mmt_tune.specs.declared.config.Config.{Config}
 use Rattle.mmt_tune.specs.Tuning.{HeardAt, heard_as, history, tuned, values_by}
 

@@ -4,7 +4,7 @@ use Rattle.mmt_hear.specs.Views.{HasHeard}
 use Rattle.mmt_stream.proofs.Consumers.{text, gathers, stops}
 use Rattle.mmt_list.specs.Line.{line_of}
 use Rattle.mmt_list.proofs.Lines.{lines_next}
-use Rattle.mmt_peak.proofs.Ends.{newest_more}
+use Rattle.mmt_model.proofs.Newest.{newest_more}
 use Rattle.mmt_cli.specs.Listing.{listed}
 use Rattle.mmt_cli.specs.ListingGrows.{listing_grows}
 use Rattle.mmt_cli.proofs.list.ListCommandConsumer.push.Goals as goal

@@ -1,7 +1,8 @@
 use Rattle.std.proofs.Common.{sym, subst}
 use Rattle.mmt_model.specs.Delivery.{newest_first}
 use Rattle.mmt_peak.specs.Commanding.{HasSeen}
-use Rattle.mmt_peak.proofs.Ends.{stays, newest_more}
+use Rattle.mmt_peak.proofs.Ends.{stays}
+use Rattle.mmt_model.proofs.Newest.{newest_more}
 use Rattle.mmt_peak.proofs.command.PeakCommandConsumer.push.Goals as goal
 
 pub returns-in-Ok-clause-pushed : goal.returns-in-Ok-clause-pushed

@@ -1,8 +1,9 @@
-use Rattle.std.proofs.Common.{Some, ap, sym}
+use Rattle.std.proofs.Common.{Some, ap, sym, ◌∙◌, arith}
 use Rattle.mmt_packet.specs.Spelling.{view}
 use Rattle.mmt_tune.specs.Tuning.{HeardAt}
 use Rattle.mmt_recv.specs.Receiving.{Holds, State}
 use Rattle.mmt_recv.proofs.Next.{Now, clock_now, handed_lines, holds_next, is_now, notes_now, puts_next, starts_first, starts_next}
+use Rattle.mmt_recv.proofs.Bounded.{forgotten_bounded, learned_bounded, left_bounded, taken_bounded}
 use Rattle.mmt_recv.proofs.receiver.Receiver.take_heard.Goals as goal
 
 pub returns-in-Err-clause-put : goal.returns-in-Err-clause-put
@@ -56,3 +57,20 @@ returns-clause-put g c = λ told session holds before.
     (puts_next _ _ _ _ _ _ _ (handed_lines s c.args.tuned.params session h c.args.tuned.clock.0 c.advance-clock.result.0 o before c.advance-clock.ensures)
     (notes_now s.config c.args.tuned.params session h c.advance_to.new.pool c.advance_to.new.names c.advance-clock.result.0 n)
     (e.put told) (c.in-Ok-take_packet.ensures.put (rw e.tells told)))
+
+pub invariant_of-self : goal.invariant_of-self
+invariant_of-self g c =
+    let e = c.in-Ok.ensures in
+    let t = c.in-Ok-take_packet.ensures.takes in
+    let i = c.self.invariant in
+    let left = left_bounded c.self.inside.pool c.advance_to.new.pool _ c.self.inside.config.bound e.kept i.3 in
+    let kept = taken_bounded _ c.advance_to.new.pool c.advance_to.new.names _ c.take_packet.new.pool c.take_packet.new.names t (omega (arith, left, e.bound, i.2)) in (
+      c.in-Ok-take_packet.ensures.told,
+      i.1,
+      t.bound ∙ (e.bound ∙ i.2),
+      omega (arith, kept, e.bound, i.2),
+      learned_bounded _ c.advance_to.new.pool c.advance_to.new.names _ c.take_packet.new.pool c.take_packet.new.names t (forgotten_bounded c.self.inside.names c.advance_to.new.names _ _ e.names i.4),
+    )
+
+pub returns-clause-bounded : goal.returns-clause-bounded
+returns-clause-bounded g c = let i = invariant_of-self g c in record { bytes = i.3; live = i.4 }
