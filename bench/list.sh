@@ -8,7 +8,7 @@ here=$(cd "$(dirname "$0")/.." && pwd)
 [ $# -eq 1 ] || { echo "usage: bench/list.sh YARDSTICK.rs" >&2; exit 1; }
 folder=$(mktemp -d "${TMPDIR:-/tmp}/mmt-list-XXXXXX")
 trap 'rm -rf "$folder"' EXIT
-rustc -O "$1" -o "$folder/yardstick"
+rustc --edition 2021 -O "$1" -o "$folder/yardstick"
 "$here/mmt" --version >/dev/null
 python3 - "$folder/stream" <<'PYTHON'
 import sys

@@ -2,7 +2,7 @@
 
 ghost use Rattle.std.specs.Prelude.{◌≡◌, ◌+◌, ◌*◌, ◌<◌, ◌≤◌, ◌^◌, ◌++◌, length, vec_len, vec_capacity, OnOk, OnErr};
 ghost use Rattle.std.specs.Int.{w32, w128};
-ghost use Rattle.mmt_mpt.specs.Location.{FlowFits, StreamFits, FlowStreamFits, LocationFits, CanSpell, flow_bytes, stream_bytes, flow_stream_bytes, url_bytes, location_bytes};
+ghost use Rattle.mmt_mpt.specs.Location.{FlowFits, StreamFits, FlowStreamFits, LocationFits, CanSpell, type_of, after_type, flow_bytes, stream_bytes, flow_stream_bytes, url_bytes, location_bytes};
 ghost use Rattle.mmt_mpt.specs.LocationWriting.{location_size as size_of};
 ghost use Rattle.mmt_mpt.specs.LocationView.{view_location};
 
@@ -88,6 +88,60 @@ fn put_url(out: &mut Vec<u8>, text: &[u8])
     put_bytes(out, text);
 }
 
+// The number of a location's type.
+fn kind_of(location: &Location<'_>) -> u8
+    ensures { result ≡ type_of (view_location location.now) }
+{
+    match location {
+        Location::Here { .. } => 0,
+        Location::Ip4 { .. } => 1,
+        Location::Ip6 { .. } => 2,
+        Location::Stream { .. } => 3,
+        Location::Ip6Stream { .. } => 4,
+        Location::Url { .. } => 5,
+    }
+}
+
+// Appends what follows the type of a location.
+fn put_after_type(out: &mut Vec<u8>, location: &Location<'_>)
+    requires can { CanSpell (view_location location.now) }
+    requires room { vec_len out.old + size_of (view_location location.now) ≤ vec_capacity out.old + 1 }
+    ensures items { out.new.items ≡ out.old.items ++ after_type (view_location location.now) }
+    ensures fits { LocationFits (view_location location.now) }
+    ensures len { vec_len out.new + 1 ≡ vec_len out.old + size_of (view_location location.now) }
+    ensures capacity { vec_capacity out.old ≤ vec_capacity out.new }
+{
+    match *location {
+        Location::Here { packet_id } => put_u16(out, packet_id),
+        Location::Ip4 {
+            source,
+            destination,
+            port,
+            packet_id,
+        } => put_ip4(out, source, destination, port, packet_id),
+        Location::Ip6 {
+            source,
+            destination,
+            port,
+            packet_id,
+        } => put_ip6(out, source, destination, port, packet_id),
+        Location::Stream {
+            network,
+            stream,
+            reserved,
+            pid,
+        } => put_stream(out, network, stream, reserved, pid),
+        Location::Ip6Stream {
+            source,
+            destination,
+            port,
+            reserved,
+            pid,
+        } => put_ip6_stream(out, source, destination, port, reserved, pid),
+        Location::Url { text } => put_url(out, text),
+    }
+}
+
 /// Appends a location where there is room for it.
 #[tactic(auto, using(std::proofs::Common::append_assoc), unfolding(crate::specs::Location::location_bytes))]
 pub(crate) fn put_location(out: &mut Vec<u8>, location: &Location<'_>)
@@ -98,53 +152,8 @@ pub(crate) fn put_location(out: &mut Vec<u8>, location: &Location<'_>)
     ensures len { vec_len out.new ≡ vec_len out.old + size_of (view_location location.now) }
     ensures capacity { vec_capacity out.old ≤ vec_capacity out.new }
 {
-    match *location {
-        Location::Here { packet_id } => {
-            put_u8(out, 0);
-            put_u16(out, packet_id);
-        }
-        Location::Ip4 {
-            source,
-            destination,
-            port,
-            packet_id,
-        } => {
-            put_u8(out, 1);
-            put_ip4(out, source, destination, port, packet_id);
-        }
-        Location::Ip6 {
-            source,
-            destination,
-            port,
-            packet_id,
-        } => {
-            put_u8(out, 2);
-            put_ip6(out, source, destination, port, packet_id);
-        }
-        Location::Stream {
-            network,
-            stream,
-            reserved,
-            pid,
-        } => {
-            put_u8(out, 3);
-            put_stream(out, network, stream, reserved, pid);
-        }
-        Location::Ip6Stream {
-            source,
-            destination,
-            port,
-            reserved,
-            pid,
-        } => {
-            put_u8(out, 4);
-            put_ip6_stream(out, source, destination, port, reserved, pid);
-        }
-        Location::Url { text } => {
-            put_u8(out, 5);
-            put_url(out, text);
-        }
-    }
+    put_u8(out, kind_of(location));
+    put_after_type(out, location);
 }
 
 /// How many bytes a location has.

@@ -5,10 +5,11 @@ use Rattle.std.proofs.lemmas.List.{append-nil, length-append}
 use Rattle.std.proofs.lemmas.List.Sums.{sum_by-append}
 use Rattle.std.proofs.lemmas.Grind.{flat_map-append}
 use Rattle.mmt_io.specs.History.{Event}
+use Rattle.mmt_model.specs.Counts.{counted}
 use Rattle.mmt_model.specs.Handing.{Presentation}
 use Rattle.mmt_output.specs.declared.handed.Handed.{Handed}
 use Rattle.mmt_output.specs.Putting.{only_written, Puts, PutsStart}
-use Rattle.mmt_output.specs.Records.{record_of, records, counted, amount_of}
+use Rattle.mmt_output.specs.Records.{record_of, records, amount_of}
 use Rattle.mmt_output.proofs.Putting.{puts_nothing, puts_both, puts_and_start, start_of_part}
 
 abbrev sizes : List Presentation → ℕ

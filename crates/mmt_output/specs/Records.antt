@@ -1,8 +1,9 @@
 -- The records of media units, as they are written.
-use Rattle.std.specs.Prelude.{ℕ, ◌-◌, ◌^◌, min, List, ◌∷◌, ◌++◌, length}
+use Rattle.std.specs.Prelude.{ℕ, List, ◌∷◌, ◌++◌, length}
 use Rattle.std.specs.List.{flat_map, sum_by}
 use Rattle.std.specs.Int.{w16, w32, w64}
 use Rattle.mmt_fields.specs.Reading.{big_endian}
+use Rattle.mmt_model.specs.Counts.{counted}
 use Rattle.mmt_model.specs.Handing.{Presentation}
 use Rattle.mmt_model.specs.declared.keys.UnitKey.{UnitKey}
 use Rattle.mmt_model.specs.declared.keys.UnitKey.TheVariants as keys
@@ -31,10 +32,6 @@ record_of p = header_of p ++ p.unit.bytes
 -- the records of units, one after the other (this project's rule)
 abbrev pub records : List Presentation → List ℕ
 records ps = flat_map record_of ps
-
--- a count of 64 bits, which stays at its last value (this project's rule)
-abbrev pub counted : ℕ → ℕ
-counted n = min n (2 ^ 64 - 1)
 
 -- how many units these are, and how many bytes they have together (this project's rule)
 unfoldable pub amount_of : List Presentation → Handed

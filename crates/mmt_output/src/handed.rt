@@ -1,8 +1,9 @@
 //! How much was handed out.
 
 ghost use Rattle.std.specs.Prelude.{◌≡◌, ℕ, ◌+◌, List, [], ◌++◌};
+ghost use Rattle.mmt_model.specs.Counts.{counted};
 ghost use Rattle.mmt_model.specs.Handing.{Presentation};
-ghost use Rattle.mmt_output.specs.Records.{counted, amount_of};
+ghost use Rattle.mmt_output.specs.Records.{amount_of};
 
 /// How many media units were handed out, and how many bytes they have together, without the headers
 /// of their records. Each number stays at 2^64 - 1.
