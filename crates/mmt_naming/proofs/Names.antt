@@ -1,12 +1,12 @@
 -- The names among findings are the names in messages.
-use Rattle.std.proofs.Common.{◌≡◌, ℕ, ◌+◌, Bool, true, false, ◌&&◌, ◌==◌, cond, List, [], ◌∷◌, ◌++◌, map, length, refl, ap, ap₂, sym, ◌∙◌}
+use Rattle.std.proofs.Common.{◌≡◌, ℕ, ◌+◌, Bool, true, false, ◌==◌, cond, List, [], ◌∷◌, ◌++◌, map, length, refl, ap, ap₂, sym, ◌∙◌}
 use Rattle.std.specs.Prelude.{Result, Ok, Err}
 use Rattle.std.specs.List.{flat_map, filter}
 use Rattle.mmt_base.specs.declared.refused.Refused.{Refused}
 use Rattle.mmt_model.specs.declared.programmes.Params.{Params}
 use Rattle.mmt_model.specs.declared.keys.Part.TheVariants as parts
 use Rattle.mmt_model.specs.Packets.{Heard, Payload}
-use Rattle.mmt_model.specs.Units.{Message, message_by, messages_by, part_messages, is_part_of, names_of as names_by}
+use Rattle.mmt_model.specs.Units.{Message, messages_by, part_messages, names_of as names_by}
 use Rattle.mmt_sig.specs.declared.message.MessageWhy.{MessageWhy}
 use Rattle.mmt_sig.specs.Tables.{ListedTable}
 use Rattle.mmt_sig.specs.Message.{MessageValue, PaMessage, HrbmMessage, OtherMessage}
@@ -15,7 +15,8 @@ use Rattle.mmt_mpt.specs.declared.mpt_why.MptWhy.{MptWhy}
 use Rattle.mmt_mpt.specs.Table.{MptValue, mpt_id}
 use Rattle.mmt_mpt.specs.TableReading.{mpt_of}
 use Rattle.mmt_times.specs.NamesOf.{NamedValue, IsEntry, IsRefused, names_of}
-use Rattle.mmt_runs.specs.Messages.{messages_on, messages_with, is_part, is_short, short_bytes}
+use Rattle.mmt_runs.specs.Messages.{messages_with, is_short, short_bytes}
+use Rattle.mmt_runs.proofs.Whole.{short_messages}
 use Rattle.mmt_output.specs.declared.notes.Note.TheVariants as notes
 use Rattle.mmt_naming.specs.Findings.{Remark, names_among, entry_in, entries_by, entries_of_table, entries_of_message, names_in, finding_of, findings_of_mpt, findings_of_table, findings_of_tables, are_same, findings_of_message, findings_in, findings_from, findings_of_joined, findings_by}
 use Rattle.mmt_naming.proofs.Taking.{names_both}
@@ -83,25 +84,9 @@ names_of_joined timescale tuned (m ∷ ms) =
 
 -- ---- the messages of a packet
 
-both_tests : {A : Type 0} (s t : A → Bool) (xs : List A) → filter (λ x. s x && t x) xs ≡ filter t (filter s xs)
-both_tests s t [] = refl
-both_tests s t (x ∷ xs) = go (s x) (t x) refl (both_tests s t xs)
-  where
-    go : (a b : Bool) → t x ≡ b → filter (λ x. s x && t x) xs ≡ filter t (filter s xs) → cond (a && b) (x ∷ filter (λ x. s x && t x) xs) (filter (λ x. s x && t x) xs) ≡ filter t (cond a (x ∷ filter s xs) (filter s xs))
-    go true true e ih = rw e (ap (λ l. x ∷ l) ih)
-    go true false e ih = rw e ih
-    go false true e ih = ih
-    go false false e ih = ih
-
--- the bytes of the message that a packet is a part of are those of the short ones among these messages
-short_messages : (kept : List Heard) (h : Heard) → part_messages kept h ≡ short_bytes (messages_with kept h.packet_id h.number)
-unfolding part_messages messages_with messages_on is_part_of
-short_messages kept h =
-    ap (map (λ m. m.bytes)) (both_tests (is_part h.number) is_short (flat_map (λ p. cond (p.packet_id == h.packet_id) (message_by kept p p.payload) []) kept))
-
 names_of_parts : (timescale : ℕ) (tuned : Params) (kept : List Heard) (h : Heard) → names_among (flat_map (findings_of_joined timescale tuned) (messages_with kept h.packet_id h.number)) ≡ flat_map (names_in timescale) (part_messages kept h)
 names_of_parts timescale tuned kept h =
-    names_of_joined timescale tuned (messages_with kept h.packet_id h.number) ∙ ap (flat_map (names_in timescale)) (sym (short_messages kept h))
+    names_of_joined timescale tuned (messages_with kept h.packet_id h.number) ∙ ap (flat_map (names_in timescale)) (sym (short_messages kept h h.packet_id h.number refl refl))
 
 names_of_payload : (timescale : ℕ) (tuned : Params) (kept : List Heard) (h : Heard) (p : Payload) → names_among (findings_by timescale tuned kept h p) ≡ flat_map (names_in timescale) (messages_by kept h p)
 unfolding messages_by

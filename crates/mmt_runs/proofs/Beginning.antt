@@ -1,7 +1,6 @@
 -- The named units that begin in a packet, by its payload.
-use Rattle.std.proofs.Common.{◌≡◌, ℕ, ◌+◌, Bool, true, false, ◌&&◌, ◌==◌, cond, List, [], ◌∷◌, map, length, arith, refl, ap, ap₂, sym, ◌∙◌, Option, Some, None, inl, inr}
+use Rattle.std.proofs.Common.{◌≡◌, ℕ, ◌+◌, ◌<◌, ◌^◌, Bool, List, [], ◌∷◌, map, length, arith, refl, ap, ap₂, ◌∙◌, Option, Some, None, inl, inr}
 use Rattle.std.specs.Prelude.{Result, Ok, Err}
-use Rattle.std.proofs.lemmas.Bool.{eqb-true, and_parts}
 use Rattle.mmt_base.specs.declared.refused.Refused.{Refused}
 use Rattle.mmt_packet.specs.declared.packet.Kind.{Kind}
 use Rattle.mmt_packet.specs.declared.packet.Kind.TheVariants as kinds
@@ -15,16 +14,16 @@ use Rattle.mmt_model.specs.Packets.{Heard, Payload, DataUnit}
 use Rattle.mmt_model.specs.declared.keys.Part.{Part}
 use Rattle.mmt_model.specs.declared.keys.Part.TheVariants as parts
 use Rattle.mmt_model.specs.Handing.{named_units}
-use Rattle.mmt_model.specs.Units.{MediaUnit, units_by, whole_units, unit_from, joined_unit, rest_of_run, media_link, next_number, Link}
+use Rattle.mmt_model.specs.Units.{MediaUnit, units_by, whole_units, unit_from, joined_unit, rest_of_run, media_link, next_number}
 use Rattle.mmt_times.specs.Known.{Known}
-use Rattle.mmt_pool.specs.Holding.{Kept, is_at}
+use Rattle.mmt_pool.specs.Holding.{Kept}
 use Rattle.mmt_pool.specs.Holding.{packet_at as kept_at}
 use Rattle.mmt_runs.specs.Reading.{heard, media_of, signals_by, payload_by, data_unit_of}
 use Rattle.mmt_runs.specs.Media.{media_at, if_media}
 use Rattle.mmt_runs.specs.Lone.{Lone}
 use Rattle.mmt_runs.specs.Offers.{bare, whole_of, run_of, HasRest}
 use Rattle.mmt_runs.specs.Choosing.{named_at}
-use Rattle.mmt_runs.proofs.Linking.{some_media}
+use Rattle.mmt_runs.proofs.Linking.{found_at}
 use Rattle.mmt_runs.proofs.UnitSizes.{payload_fits, total}
 use Rattle.mmt_runs.proofs.Held.{whole_held}
 
@@ -99,15 +98,6 @@ named_by_some names all id number bytes (Some p) f e =
     let g = f p refl in
     ap (named_units names.sample_base names.entries) (units_kept all p ∙ (units_kind all p.packet_id p.number p.kind p.payload bytes e ∙ ap₂ (λ i n. units_of_bytes all i n bytes) g.0 g.1))
 
-found_at : (kept : List Kept) (id number : ℕ) (p : Kept) → kept_at kept id number ≡ Some p → (p.packet_id ≡ id) × (p.number ≡ number)
-unfolding is_at
-found_at [] id number p e = absurd cc
-found_at (q ∷ kept) id number p e = go ((q.packet_id == id) && (q.number == number)) refl (λ f. found_at kept id number p f) e
-  where
-    go : (b : Bool) → ((q.packet_id == id) && (q.number == number)) ≡ b → (kept_at kept id number ≡ Some p → (p.packet_id ≡ id) × (p.number ≡ number)) → cond b (Some q) (kept_at kept id number) ≡ Some p → (p.packet_id ≡ id) × (p.number ≡ number)
-    go true t ih f = let s : q ≡ p = cc in let h = and_parts (q.packet_id == id) (q.number == number) t in (sym (ap (λ x. x.packet_id) s) ∙ eqb-true q.packet_id id h.0, sym (ap (λ x. x.number) s) ∙ eqb-true q.number number h.1)
-    go false t ih f = ih f
-
 pub nothing_named : (names : Known) (all : List Heard) (kept : List Kept) (id number : ℕ) → media_at (kept_at kept id number) ≡ None → named_at names all (kept_at kept id number) ≡ []
 nothing_named names all kept id number e = named_by_none names all (kept_at kept id number) e
 
@@ -145,19 +135,8 @@ pub length_mapped : {A B : Type 0} (f : A → B) (xs : List A) → length (map f
 length_mapped f [] = refl
 length_mapped f (x ∷ xs) = omega (arith, length_mapped f xs)
 
-first_break : (timed : Bool) (mpu : ℕ) (t : Bool) (m : ℕ) (ds : List DataUnit) → media_link timed mpu (Payload.Media parts.First t m ds) ≡ Link.Break
-unfolding media_link
-first_break timed mpu t m ds = refl
-
--- a first part is no part of a run that goes on
-break_at : (timed : Bool) (mpu : ℕ) (bytes : List ℕ) (v : Value) → payload_of bytes ≡ Ok v → v.head.part ≡ parts.First → media_link timed mpu (media_of (payload_of bytes)) ≡ Link.Break
-break_at timed mpu bytes v is p =
-    ap (λ r. media_link timed mpu (media_of r)) is
-    ∙ (ap (λ x. media_link timed mpu (Payload.Media x v.head.timed v.head.mpu (map data_unit_of v.units))) p
-    ∙ first_break timed mpu v.head.timed v.head.mpu (map data_unit_of v.units))
-
 -- its bytes and those of the rest of its run are held
-pub first_has_rest : (kept : List Kept) (id number : ℕ) (timed : Bool) (mpu : ℕ) (bytes : List ℕ) (v : Value) (u : UnitValue) → media_at (kept_at kept id number) ≡ Some bytes → payload_of bytes ≡ Ok v → v.head.part ≡ parts.First → v.units ≡ u ∷ []
+pub first_has_rest : (kept : List Kept) (id number : ℕ) (timed : Bool) (mpu : ℕ) (bytes : List ℕ) (v : Value) (u : UnitValue) → number < 2 ^ 32 → media_at (kept_at kept id number) ≡ Some bytes → payload_of bytes ≡ Ok v → v.units ≡ u ∷ []
     → HasRest kept id number timed mpu (length u.bytes)
-first_has_rest kept id number timed mpu bytes v u m is p l most rest e =
-    omega (arith, ap total l, payload_fits bytes v is, whole_held timed mpu kept id number most (next_number number) bytes rest m (some_media timed mpu kept id number bytes m ∙ break_at timed mpu bytes v is p) e)
+first_has_rest kept id number timed mpu bytes v u a m is l most rest b e =
+    omega (arith, ap total l, payload_fits bytes v is, whole_held timed mpu kept id most number bytes rest a b m e)

@@ -1,6 +1,6 @@
 -- What a payload is to a run.
 use Rattle.std.proofs.Common.{◌≡◌, ℕ, Bool, true, false, not, ◌&&◌, ◌==◌, cond, List, [], ◌∷◌, map, refl, ap, sym, ◌∙◌, Option, Some, None, option_map, inl, inr, zero, suc, ◌-◌, arith}
-use Rattle.std.proofs.lemmas.Bool.{eq-eqb}
+use Rattle.std.proofs.lemmas.Bool.{eq-eqb, eqb-true, and_parts}
 use mathlib.Core.Bool.{beq}
 use Rattle.mmt_model.specs.Packets.{Payload, DataUnit, Heard}
 use Rattle.mmt_model.specs.declared.keys.Part.{Part}
@@ -62,7 +62,17 @@ heard_at (p ∷ kept) id number = go ((p.packet_id == id) && (p.number == number
     go true ih = refl
     go false ih = ih
 
-payload_heard : (p : Kept) → (heard p).payload ≡ payload_by p.kind p.payload
+-- and the kept packet of a span has that packet id and number
+pub found_at : (kept : List Kept) (id number : ℕ) (p : Kept) → kept_at kept id number ≡ Some p → (p.packet_id ≡ id) × (p.number ≡ number)
+unfolding is_at
+found_at [] id number p e = absurd cc
+found_at (q ∷ kept) id number p e = go ((q.packet_id == id) && (q.number == number)) refl (λ f. found_at kept id number p f) e
+  where
+    go : (b : Bool) → ((q.packet_id == id) && (q.number == number)) ≡ b → (kept_at kept id number ≡ Some p → (p.packet_id ≡ id) × (p.number ≡ number)) → cond b (Some q) (kept_at kept id number) ≡ Some p → (p.packet_id ≡ id) × (p.number ≡ number)
+    go true t ih f = let s : q ≡ p = cc in let h = and_parts (q.packet_id == id) (q.number == number) t in (sym (ap (λ x. x.packet_id) s) ∙ eqb-true q.packet_id id h.0, sym (ap (λ x. x.number) s) ∙ eqb-true q.number number h.1)
+    go false t ih f = ih f
+
+pub payload_heard : (p : Kept) → (heard p).payload ≡ payload_by p.kind p.payload
 unfolding heard
 payload_heard p = refl
 
@@ -115,7 +125,7 @@ media_kind timed mpu kinds.Mpu payload bytes e = let same : payload ≡ bytes = 
 media_kind timed mpu kinds.Generic payload bytes e = absurd cc
 media_kind timed mpu kinds.Signalling payload bytes e = absurd cc
 
-signals_link : (timed : Bool) (mpu : ℕ) (r : Result Signals (Refused SigWhy)) → media_link timed mpu (signals_by r) ≡ Link.Break
+pub signals_link : (timed : Bool) (mpu : ℕ) (r : Result Signals (Refused SigWhy)) → media_link timed mpu (signals_by r) ≡ Link.Break
 unfolding media_link
 signals_link timed mpu (Ok v) = refl
 signals_link timed mpu (Err e) = refl

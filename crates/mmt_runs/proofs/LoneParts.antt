@@ -1,5 +1,5 @@
 -- The lone message of a payload, or the part of one, as a link of a run.
-use Rattle.std.proofs.Common.{◌≡◌, ℕ, ◌+◌, ◌≤◌, Bool, true, false, ◌&&◌, ◌||◌, ◌==◌, ◌%◌, ◌/◌, cond, List, [], ◌∷◌, map, length, refl, ap, Option, Some, None, option_map, arith, subst}
+use Rattle.std.proofs.Common.{◌≡◌, ℕ, ◌+◌, ◌≤◌, Bool, true, false, ◌||◌, ◌==◌, ◌%◌, ◌/◌, List, [], ◌∷◌, map, length, refl, ap, Option, Some, None, option_map, arith, subst}
 use Rattle.std.specs.Prelude.{Result, Ok, Err}
 use Rattle.std.specs.Int.{w8}
 use Rattle.std.proofs.lemmas.Bool.{eqb-true}
@@ -10,7 +10,7 @@ use Rattle.mmt_model.specs.Packets.{Heard, Payload}
 use Rattle.mmt_model.specs.Units.{Link, Message, packet_at, link_at, signal_link, message, message_by, rest_of_run, next_number}
 use Rattle.mmt_packet.specs.declared.packet.Kind.{Kind}
 use Rattle.mmt_packet.specs.declared.packet.Kind.TheVariants as kinds
-use Rattle.mmt_pool.specs.Holding.{Kept, is_at}
+use Rattle.mmt_pool.specs.Holding.{Kept}
 use Rattle.mmt_pool.specs.Holding.{packet_at as kept_at}
 use Rattle.mmt_sig.specs.declared.head.SigWhy.{SigWhy}
 use Rattle.mmt_sig.specs.Payload.{Payload as Signals}
@@ -18,6 +18,7 @@ use Rattle.mmt_sig.specs.PayloadReading.{payload_of, messages_of}
 use Rattle.mmt_sig.specs.PayloadReading.{part_of as part_by}
 use Rattle.mmt_runs.specs.Reading.{heard, signals_by, payload_by, media_of}
 use Rattle.mmt_runs.proofs.Sums.{link_cost, IsWithin, weight_at, at_each, heard_length}
+use Rattle.mmt_runs.proofs.Linking.{heard_at, payload_heard}
 use Rattle.mmt_mpu.specs.declared.types.MpuWhy.{MpuWhy}
 use Rattle.mmt_mpu.specs.Spelling.{Value as Mpu}
 use Rattle.mmt_mpu.specs.Reading.{payload_of as mpu_of}
@@ -108,19 +109,6 @@ is_lone r v bytes more is n e = rw is (go v.messages n e)
 
 -- ---- the packet of a span
 
-pub heard_at : (kept : List Kept) (id number : ℕ) → packet_at (map heard kept) id number ≡ option_map heard (kept_at kept id number)
-unfolding packet_at heard is_at
-heard_at [] id number = refl
-heard_at (p ∷ kept) id number = go ((p.packet_id == id) && (p.number == number)) (heard_at kept id number)
-  where
-    go : (b : Bool) → packet_at (map heard kept) id number ≡ option_map heard (kept_at kept id number) → cond b (Some (heard p)) (packet_at (map heard kept) id number) ≡ option_map heard (cond b (Some p) (kept_at kept id number))
-    go true ih = refl
-    go false ih = ih
-
-pub heard_payload : (p : Kept) → (heard p).payload ≡ payload_by p.kind p.payload
-unfolding heard
-heard_payload p = refl
-
 media_lone : (r : Result Mpu (Refused MpuWhy)) → lone_part (media_of r) ≡ None
 unfolding lone_part
 media_lone (Ok v) = refl
@@ -143,12 +131,12 @@ kind_some payload bytes kinds.Signalling e = let s : payload ≡ bytes = cc in r
 lone_none : (o : Option Kept) → signalling_at o ≡ None → lone_at (option_map heard o) ≡ None
 unfolding lone_at
 lone_none None e = refl
-lone_none (Some p) e = rw (heard_payload p) (kind_none p.payload p.kind e)
+lone_none (Some p) e = rw (payload_heard p) (kind_none p.payload p.kind e)
 
 lone_some : (bytes : List ℕ) (o : Option Kept) → signalling_at o ≡ Some bytes → lone_at (option_map heard o) ≡ lone_part (signals_by (payload_of bytes))
 unfolding lone_at
 lone_some bytes None e = absurd cc
-lone_some bytes (Some p) e = rw (heard_payload p) (kind_some p.payload bytes p.kind e)
+lone_some bytes (Some p) e = rw (payload_heard p) (kind_some p.payload bytes p.kind e)
 
 pub none_at : (kept : List Kept) (id number : ℕ) → signalling_at (kept_at kept id number) ≡ None → lone_at (packet_at (map heard kept) id number) ≡ None
 none_at kept id number e = rw (heard_at kept id number) (lone_none (kept_at kept id number) e)
@@ -247,7 +235,7 @@ sized_kind bytes kinds.Signalling = sized_read bytes (payload_of bytes) refl
 
 -- a part of a message has at least two bytes less than the payload that it is in
 pub part_within : (p : Kept) → part_cost (lone_part (heard p).payload) ≤ length p.payload
-part_within p = rw (heard_payload p) (sized_kind p.payload p.kind)
+part_within p = rw (payload_heard p) (sized_kind p.payload p.kind)
 
 link_within : (o : Option (Part × List ℕ)) → link_cost 2 (link_of o) ≤ part_cost o
 link_within None = omega arith

@@ -1,5 +1,5 @@
 -- The parts of a run lie in distinct kept packets, so they have together no more bytes than are kept.
-use Rattle.std.proofs.Common.{◌≡◌, ℕ, zero, suc, ◌+◌, ◌*◌, ◌^◌, ◌<◌, ◌≤◌, Bool, true, false, ◌&&◌, ◌==◌, cond, List, [], ◌∷◌, map, length, refl, ap, sym, ◌∙◌, Option, Some, None, arith, sum_by, ◌⊎◌, inl, inr}
+use Rattle.std.proofs.Common.{◌≡◌, ℕ, zero, suc, ◌+◌, ◌-◌, ◌*◌, ◌%◌, ◌^◌, ◌<◌, ◌≤◌, Bool, true, false, ◌&&◌, ◌==◌, cond, List, [], ◌∷◌, map, length, refl, ap, sym, ◌∙◌, Option, Some, None, arith, sum_by, ◌⊎◌, inl, inr}
 use Rattle.std.proofs.lemmas.Bool.{cases_lt, eqb-true}
 use Rattle.std.proofs.lemmas.List.{length-append}
 use Rattle.std.proofs.lemmas.List.Sums.{sum_by-cons}
@@ -203,6 +203,12 @@ unfolding times
 times_one zero = refl
 times_one (suc k) = omega (arith, times_one k)
 
+-- what parts count for has their bytes in it
+pub cost_bytes : (c : ℕ) (bs : List (List ℕ)) → length (joined bs) ≤ parts_cost c bs
+unfolding parts_cost
+cost_bytes c [] = omega arith
+cost_bytes c (b ∷ bs) = omega (arith, cost_bytes c bs, length-append b (joined bs))
+
 -- what parts count for at two each
 pub cost_two : (bs : List (List ℕ)) → parts_cost 2 bs ≡ 2 * length bs + length (joined bs)
 unfolding parts_cost
@@ -259,6 +265,14 @@ unfolding weights
 run_fits c link one within kept id most number rest a b e =
     let n : length rest ≤ held kept = rest_short c link one within kept id most (next_number number) rest (next_below number) b e in
     omega (arith, run_cost link (map heard kept) id c (λ h. h.length) (within_at c link within kept id) most (next_number number) rest e, distinct (λ h. h.length) (map heard kept) id (suc (length rest)) number a (omega (arith, n, b)), heard_sum kept)
+
+-- and so have the parts of a rest of a run alone
+pub rest_fits : (c : ℕ) (link : Payload → Link) → 1 ≤ c → IsWithin c link → (kept : List Kept) (id most number : ℕ) (rest : List (List ℕ)) → number < 2 ^ 32 → held kept < 2 ^ 32 → rest_of_run link (map heard kept) id most number ≡ Some rest → parts_cost c rest ≤ held kept
+unfolding next_number
+rest_fits c link one within kept id most number rest a b e =
+    let before : ℕ = (number + (2 ^ 32 - 1)) % 2 ^ 32 in
+    let back : next_number before ≡ number = omega (arith, a) in
+    omega (arith, run_fits c link one within kept id most before rest (omega arith) b (rw back e))
 
 count_one : (l : Link) → link_count 1 l ≤ 1
 count_one (Link.Inner bytes) = omega arith

@@ -17,6 +17,7 @@ use Rattle.mmt_mpu.specs.Spelling.{UnitHead, UnitValue, Value, head_length, end_
 use Rattle.mmt_mpu.specs.Reading.{head_at, unit_at, lone_at, go_on, walk, all_units, unless_stopped, units_of, payload_of}
 use Rattle.mmt_runs.specs.Lending.{link_bytes}
 use Rattle.mmt_runs.specs.Reading.{media_of, data_unit_of}
+use Rattle.mmt_runs.proofs.Sums.{link_cost}
 
 -- how many bytes the units have together
 abbrev pub total : List UnitValue → ℕ
@@ -91,7 +92,8 @@ units_fit false timed bytes us e =
     let is : length a.0.bytes + 0 ≡ total us = ap total (ok_is _ us a.2) in
     omega (arith, is, lone_fits timed 8 bytes a.0 a.1)
 
-pub payload_fits : (bytes : List ℕ) (v : Value) → payload_of bytes ≡ Ok v → total v.units ≤ length bytes
+-- beside its data units a payload has eight bytes
+pub payload_fits : (bytes : List ℕ) (v : Value) → payload_of bytes ≡ Ok v → 8 + total v.units ≤ length bytes
 unfolding payload_of
 payload_fits bytes v e =
     let len = bind_ok (number_at w16 bytes 0 why.Short) _ v e in
@@ -112,37 +114,43 @@ each_short [] n l = tt
 each_short (u ∷ us) n l = (omega (arith, l), each_short us n (omega (arith, l)))
 
 pub units_short : (bytes : List ℕ) (v : Value) → payload_of bytes ≡ Ok v → AllByRecursion (λ u. length u.bytes ≤ length bytes) v.units
-units_short bytes v e = each_short v.units (length bytes) (payload_fits bytes v e)
+units_short bytes v e = each_short v.units (length bytes) (omega (arith, payload_fits bytes v e))
 
-if_length : (b : Bool) (l : Link) (n : ℕ) → length (link_bytes l) ≤ n → length (link_bytes (cond b l Link.Break)) ≤ n
-if_length true l n e = e
-if_length false l n e = omega arith
+if_cost : (b : Bool) (l : Link) (n : ℕ) → link_cost 8 l ≤ n → link_cost 8 (cond b l Link.Break) ≤ n
+if_cost true l n e = e
+if_cost false l n e = omega arith
 
-link_fits : (timed : Bool) (mpu : ℕ) (part : Part) (t : Bool) (m : ℕ) (us : List UnitValue) → length (link_bytes (media_link timed mpu (Payload.Media part t m (map data_unit_of us)))) ≤ total us
+link_fits : (timed : Bool) (mpu : ℕ) (part : Part) (t : Bool) (m : ℕ) (us : List UnitValue) → link_cost 8 (media_link timed mpu (Payload.Media part t m (map data_unit_of us))) ≤ 8 + total us
 unfolding media_link
 link_fits timed mpu parts.Whole t m us = omega arith
 link_fits timed mpu parts.First t m us = omega arith
 link_fits timed mpu parts.Middle t m [] = omega arith
-link_fits timed mpu parts.Middle t m (u ∷ []) = if_length (same_flag timed t && (mpu == m)) (Link.Inner u.bytes) _ (omega arith)
+link_fits timed mpu parts.Middle t m (u ∷ []) = if_cost (same_flag timed t && (mpu == m)) (Link.Inner u.bytes) _ (omega arith)
 link_fits timed mpu parts.Middle t m (u ∷ w ∷ us) = omega arith
 link_fits timed mpu parts.Last t m [] = omega arith
-link_fits timed mpu parts.Last t m (u ∷ []) = if_length (same_flag timed t && (mpu == m)) (Link.End u.bytes) _ (omega arith)
+link_fits timed mpu parts.Last t m (u ∷ []) = if_cost (same_flag timed t && (mpu == m)) (Link.End u.bytes) _ (omega arith)
 link_fits timed mpu parts.Last t m (u ∷ w ∷ us) = omega arith
 
-other_fits : (timed : Bool) (mpu n : ℕ) → length (link_bytes (media_link timed mpu Payload.Other)) ≤ n
+pub other_fits : (timed : Bool) (mpu n : ℕ) → link_cost 8 (media_link timed mpu Payload.Other) ≤ n
 unfolding media_link
 other_fits timed mpu n = omega arith
 
-pub media_fits : (timed : Bool) (mpu : ℕ) (bytes : List ℕ) → length (link_bytes (media_link timed mpu (media_of (payload_of bytes)))) ≤ length bytes
+-- a part has at least eight bytes less than the payload that it is in
+pub media_fits : (timed : Bool) (mpu : ℕ) (bytes : List ℕ) → link_cost 8 (media_link timed mpu (media_of (payload_of bytes))) ≤ length bytes
 media_fits timed mpu bytes = go (payload_of bytes) refl
   where
-    go : (r : Result Value (Refused MpuWhy)) → payload_of bytes ≡ r → length (link_bytes (media_link timed mpu (media_of r))) ≤ length bytes
+    go : (r : Result Value (Refused MpuWhy)) → payload_of bytes ≡ r → link_cost 8 (media_link timed mpu (media_of r)) ≤ length bytes
     go (Ok v) is = omega (arith, payload_fits bytes v is, link_fits timed mpu v.head.part v.head.timed v.head.mpu v.units)
     go (Err d) is = other_fits timed mpu (length bytes)
 
+bytes_cost : (l : Link) → length (link_bytes l) ≤ link_cost 8 l
+bytes_cost (Link.Inner bytes) = omega arith
+bytes_cost (Link.End bytes) = omega arith
+bytes_cost Link.Break = omega arith
+
 -- a link of a short payload has few bytes
 pub short_link : (timed : Bool) (mpu : ℕ) (bytes : List ℕ) (l : Link) → l ≡ media_link timed mpu (media_of (payload_of bytes)) → length bytes < 2 ^ 31 → length (link_bytes l) < 2 ^ 31
-short_link timed mpu bytes l is short = omega (arith, ap (λ x. length (link_bytes x)) is, media_fits timed mpu bytes, short)
+short_link timed mpu bytes l is short = omega (arith, bytes_cost l, ap (link_cost 8) is, media_fits timed mpu bytes, short)
 
 below : (us : List UnitValue) (n m : ℕ) → n < m → AllByRecursion (λ u. length u.bytes ≤ n) us → AllByRecursion (λ u. length u.bytes < m) us
 below [] n m l h = tt

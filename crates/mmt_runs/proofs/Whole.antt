@@ -1,7 +1,7 @@
 -- The message that a packet is a part of: there is at most one, and it begins where the walk back comes to.
 use Rattle.std.proofs.Common.{◌≡◌, ℕ, zero, suc, ◌+◌, ◌*◌, ◌^◌, ◌<◌, ◌≤◌, Bool, true, false, ◌&&◌, ◌==◌, nat_lt, cond, List, [], ◌∷◌, ◌++◌, map, length, refl, ap, ap₂, sym, ◌∙◌, subst, Option, Some, None, option_map, arith, ◌⊎◌, inl, inr, filter, add-one}
 use Rattle.std.specs.List.{flat_map, AllByRecursion}
-use Rattle.std.proofs.lemmas.Bool.{eqb-true, eq-eqb, and_parts}
+use Rattle.std.proofs.lemmas.Bool.{eqb-true, eq-eqb}
 use Rattle.std.proofs.lemmas.Bool.Decides.{nat_tests}
 use Rattle.std.proofs.lemmas.List.{append-nil}
 use Rattle.std.proofs.lemmas.List.Elements.{filter-append}
@@ -16,7 +16,8 @@ use Rattle.mmt_runs.specs.Reading.{heard}
 use Rattle.mmt_runs.specs.Messages.{messages_on, messages_with, is_part, is_short, short_bytes, message_of}
 use Rattle.mmt_runs.specs.MessageParts.{lone_part, lone_at, first_of, parts_from, all_parts, Ends}
 use Rattle.mmt_runs.proofs.Sums.{rest_short, next_below, same_rest, run_fits, cost_two}
-use Rattle.mmt_runs.proofs.LoneParts.{begun, lone_message, heard_at, signals_within, first_within}
+use Rattle.mmt_runs.proofs.LoneParts.{begun, lone_message, signals_within, first_within}
+use Rattle.mmt_runs.proofs.Linking.{heard_at, found_at}
 use Rattle.mmt_runs.proofs.Walked.{part_at, Walked, walked, walked_run, leads_back, ahead_on, some_is}
 
 -- ---- kept packets in their order
@@ -183,15 +184,6 @@ one_found kept id number f bytes e (p ∷ ps) r h = go (is_at id f p) refl (one_
     go false t ih = rw (elsewhere kept id number f bytes e p t h.0) ih
 
 -- ---- the message at the first part
-
-found_at : (kept : List Kept) (id number : ℕ) (p : Kept) → kept_at kept id number ≡ Some p → (p.packet_id ≡ id) × (p.number ≡ number)
-unfolding is_at
-found_at [] id number p e = absurd cc
-found_at (q ∷ kept) id number p e = go ((q.packet_id == id) && (q.number == number)) refl (λ f. found_at kept id number p f) e
-  where
-    go : (b : Bool) → ((q.packet_id == id) && (q.number == number)) ≡ b → (kept_at kept id number ≡ Some p → (p.packet_id ≡ id) × (p.number ≡ number)) → cond b (Some q) (kept_at kept id number) ≡ Some p → (p.packet_id ≡ id) × (p.number ≡ number)
-    go true t ih f = let s : q ≡ p = cc in let h = and_parts (q.packet_id == id) (q.number == number) t in (sym (ap (λ x. x.packet_id) s) ∙ eqb-true q.packet_id id h.0, sym (ap (λ x. x.number) s) ∙ eqb-true q.number number h.1)
-    go false t ih f = ih f
 
 -- a first part and a rest as messages: one, or none where there is no rest
 abbrev pub told : ℕ → List ℕ → Option (List (List ℕ)) → List Message

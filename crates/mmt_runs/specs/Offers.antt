@@ -1,5 +1,5 @@
 -- The units that begin in a packet, by what its payload spells.
-use Rattle.std.specs.Prelude.{◌≡◌, ◌≤◌, ℕ, ◌+◌, Bool, false, List, [], map, length, Option, Some, None}
+use Rattle.std.specs.Prelude.{◌≡◌, ◌≤◌, ◌<◌, ◌^◌, ℕ, ◌+◌, Bool, false, List, [], map, length, Option, Some, None}
 use Rattle.mmt_model.specs.Packets.{Heard, Payload}
 use Rattle.mmt_model.specs.Units.{MediaUnit, whole_units, joined_unit, rest_of_run, media_link, next_number, joined}
 use Rattle.mmt_mpu.specs.Spelling.{UnitValue}
@@ -25,6 +25,6 @@ run_of kept id number timed mpu most (Some u) = joined_unit (bare id number) mpu
 abbrev pub whole_at : UnitOrder → UnitValue → MediaUnit
 whole_at o u = unit_at o u.head.priority u.head.dependency u.bytes
 
--- so many bytes are with those of the rest of a run, if it is whole, no more than all that are held (this project's rule)
+-- so many bytes are with those of the rest of a run, if it is whole, no more than all that are held, where fewer than 2^32 are (this project's rule)
 abbrev pub HasRest : List Kept → ℕ → ℕ → Bool → ℕ → ℕ → Type 0
-HasRest kept id number timed mpu n = (most : ℕ) (rest : List (List ℕ)) → rest_of_run (media_link timed mpu) (map heard kept) id most (next_number number) ≡ Some rest → n + length (joined rest) ≤ held kept
+HasRest kept id number timed mpu n = (most : ℕ) (rest : List (List ℕ)) → held kept < 2 ^ 32 → rest_of_run (media_link timed mpu) (map heard kept) id most (next_number number) ≡ Some rest → n + length (joined rest) ≤ held kept

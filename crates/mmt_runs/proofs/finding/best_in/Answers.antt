@@ -1,4 +1,4 @@
-use Rattle.std.proofs.Common.{◌≡◌, sym, ◌∙◌, ap, Some, None, length, map, subst}
+use Rattle.std.proofs.Common.{◌≡◌, arith, sym, ◌∙◌, ap, Some, None, length, map, subst}
 use Rattle.mmt_model.specs.Handing.{named_units}
 use Rattle.mmt_runs.specs.Reading.{heard}
 use Rattle.mmt_mpu.specs.Head.{view_unit}
@@ -19,8 +19,7 @@ best_whole-requires c = units_below c.in-Some.bytes.now _ c.in-Ok.ensures.exact 
 
 pub better_run-requires-clause-rest : goal.better_run-requires-clause-rest
 better_run-requires-clause-rest c =
-    first_has_rest c.args.pool.now.kept c.args.span.packet_id c.args.span.number _ _ c.in-Some.bytes.now _ (view_unit c.in-Some-lone_unit.unit) (sym c.in-Some.ensures.bytes) c.in-Ok.ensures.exact
-    (sym (ap (λ h. h.part) c.head-head.ensures) ∙ c.in-First.is) (sym c.units.ensures ∙ c.in-Some-lone_unit.ensures)
+    first_has_rest c.args.pool.now.kept c.args.span.packet_id c.args.span.number _ _ c.in-Some.bytes.now _ (view_unit c.in-Some-lone_unit.unit) (omega arith) (sym c.in-Some.ensures.bytes) c.in-Ok.ensures.exact (sym c.units.ensures ∙ c.in-Some-lone_unit.ensures)
 
 pub returns-in-Whole : goal.returns-in-Whole
 returns-in-Whole c = λ most.

@@ -14,15 +14,15 @@ returns-in-Break-clause-follows c =
 pub prove-unreachable-requires : goal.prove-unreachable-requires
 prove-unreachable-requires c =
     let e = ended _ _ _ _ _ _ _ _ c.in-End.bytes.now c.packets-test.true (rw c.packets.invariant.packet_id at (sym c.in-End.ensures.link)) c.packets.invariant.followed in
-    let h = rest_held c.args.timed c.args.mpu c.args.pool.now.kept c.args.first.packet_id c.args.most c.args.first.number _ e.0 in
     let b : held c.args.pool.now.kept < 2 ^ 32 = omega (arith, c.held-held.ensures.sum) in
+    let h = rest_held c.args.timed c.args.mpu c.args.pool.now.kept c.args.first.packet_id c.args.most c.args.first.number _ (omega arith) b e.0 in
     omega (arith, not_round _ _ _ e.1 h b, h, c.if-prove.true, c.held-held.ensures.sum)
 
 pub returns-in-End-clause-follows : goal.returns-in-End-clause-follows
 returns-in-End-clause-follows c =
     let e = ended _ _ _ _ _ _ _ _ c.in-End.bytes.now c.packets-test.true (rw c.packets.invariant.packet_id at (sym c.in-End.ensures.link)) c.packets.invariant.followed in
-    let h = rest_held c.args.timed c.args.mpu c.args.pool.now.kept c.args.first.packet_id c.args.most c.args.first.number _ e.0 in
     let b : held c.args.pool.now.kept < 2 ^ 32 = omega (arith, c.held-held.ensures.sum) in
+    let h = rest_held c.args.timed c.args.mpu c.args.pool.now.kept c.args.first.packet_id c.args.most c.args.first.number _ (omega arith) b e.0 in
     (e.0, not_round _ _ _ e.1 h b, omega (arith, c.packets-test.true))
 
 pub packets-preserved : goal.packets-preserved
