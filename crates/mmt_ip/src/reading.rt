@@ -1,14 +1,34 @@
 //! Reading a packet, field by field.
 
-ghost use Rattle.std.specs.Prelude.{◌+◌, ◌≡◌, ◌<◌, ◌≤◌, ◌^◌, length, IfOk, IfErr, Ok};
-ghost use Rattle.mmt_fields.specs.Reading.{Gives};
-ghost use Rattle.mmt_ip.specs.Spelling.{Value, Fits, view, spelling};
+ghost use Rattle.std.specs.Prelude.{◌+◌, ◌≡◌, ◌<◌, ◌≤◌, ◌^◌, ◌||◌, ◌==◌, length, IfOk, IfErr, Ok};
+ghost use Rattle.mmt_fields.specs.Reading.{Gives, check as check_of};
+ghost use Rattle.mmt_ip.specs.Spelling.{Value, Fits, view, spelling, checksum};
 ghost use Rattle.mmt_ip.specs.Reading.{packet_of};
 
 use crate::packet::{Ip6Header, Ip6Udp, IpWhy};
 use crate::sum::checksum_of;
 use mmt_base::Refused;
 use mmt_fields::{u8_at, u16_at, u32_at, u128_at};
+
+/// A test that has to hold, or the refusal at its place.
+fn check(holds: bool, at: u32, why: IpWhy) -> Result<(), Refused<IpWhy>>
+    ensures gives { Gives (λ _. tt) result (check_of holds at why) }
+    ensures place { IfErr result (λ e. e.at ≡ at) }
+{
+    if holds {
+        Ok(())
+    } else {
+        Err(Refused { at, why })
+    }
+}
+
+/// Whether a checksum is none, or the right one (RFC 768).
+fn is_right(sum: u16, header: &Ip6Header, payload: &[u8]) -> bool
+    requires { 8 + length payload.now < 2 ^ 16 }
+    ensures { result ≡ ((sum == 0) || (sum == checksum header.now payload.now)) }
+{
+    sum == 0 || sum == checksum_of(header, payload)
+}
 
 /// The packet that the bytes are, or the first refusal.
 #[tactic(auto, unfolding(crate::specs::Reading::packet_of))]
@@ -18,52 +38,22 @@ fn packet(bytes: &[u8]) -> Result<Ip6Udp<'_>, Refused<IpWhy>>
     ensures within { IfOk result (λ p. 48 + length p.payload.now ≡ length bytes.now) }
     ensures place { IfErr result (λ e. e.at ≤ length bytes.now) }
 {
-    if bytes.len() < 40 {
-        return Err(Refused {
-            at: 0,
-            why: IpWhy::Short,
-        });
-    }
+    check(bytes.len() >= 40, 0, IpWhy::Short)?;
     let (word, rest) = u32_at(bytes, 0, IpWhy::Short)?;
     let version = word >> 28;
-    if version != 6 {
-        return Err(Refused {
-            at: 0,
-            why: IpWhy::Version(version as u8),
-        });
-    }
+    check(version == 6, 0, IpWhy::Version(version as u8))?;
     let (len, rest) = u16_at(rest, 4, IpWhy::Short)?;
     let (next, rest) = u8_at(rest, 6, IpWhy::Short)?;
-    if next != 17 {
-        return Err(Refused {
-            at: 6,
-            why: IpWhy::NextHeader(next),
-        });
-    }
+    check(next == 17, 6, IpWhy::NextHeader(next))?;
     let (hop_limit, rest) = u8_at(rest, 7, IpWhy::Short)?;
     let (source, rest) = u128_at(rest, 8, IpWhy::Short)?;
     let (destination, rest) = u128_at(rest, 24, IpWhy::Short)?;
-    if rest.len() != len as usize {
-        return Err(Refused {
-            at: 4,
-            why: IpWhy::Length,
-        });
-    }
-    if rest.len() < 8 {
-        return Err(Refused {
-            at: 40,
-            why: IpWhy::Short,
-        });
-    }
+    check(rest.len() == len as usize, 4, IpWhy::Length)?;
+    check(rest.len() >= 8, 40, IpWhy::Short)?;
     let (source_port, rest) = u16_at(rest, 40, IpWhy::Short)?;
     let (destination_port, rest) = u16_at(rest, 42, IpWhy::Short)?;
     let (udp_len, rest) = u16_at(rest, 44, IpWhy::Short)?;
-    if udp_len != len {
-        return Err(Refused {
-            at: 44,
-            why: IpWhy::Length,
-        });
-    }
+    check(udp_len == len, 44, IpWhy::Length)?;
     let (sum, payload) = u16_at(rest, 46, IpWhy::Short)?;
     let header = Ip6Header {
         traffic_class: (word >> 20 & 0xFF) as u8,
@@ -74,12 +64,7 @@ fn packet(bytes: &[u8]) -> Result<Ip6Udp<'_>, Refused<IpWhy>>
         source_port,
         destination_port,
     };
-    if sum != 0 && sum != checksum_of(&header, payload) {
-        return Err(Refused {
-            at: 46,
-            why: IpWhy::Checksum,
-        });
-    }
+    check(is_right(sum, &header, payload), 46, IpWhy::Checksum)?;
     Ok(Ip6Udp {
         header,
         summed: sum != 0,

@@ -6,7 +6,7 @@ use Rattle.mmt_model.specs.declared.keys.Part.{Part}
 use Rattle.mmt_model.specs.declared.keys.Part.TheVariants as parts
 use Rattle.mmt_model.specs.declared.programmes.Params.{Params}
 use Rattle.mmt_sig.specs.declared.message.MessageWhy.{MessageWhy}
-use Rattle.mmt_mpu.specs.Spelling.{part_number}
+use Rattle.mmt_model.specs.Parts.{part_number}
 use Rattle.mmt_sig.specs.Payload.{Payload}
 use Rattle.mmt_sig.specs.Tables.{ListedTable}
 use Rattle.mmt_sig.specs.Message.{MessageValue, PaMessage, HrbmMessage, OtherMessage}

@@ -2,14 +2,15 @@
 use Rattle.std.specs.Prelude.{ℕ, ◌/◌, ◌%◌, Bool, true, false, List, [], ◌∷◌, ◌++◌, length, codes, decimal, ◌==◌, if◌then◌else◌}
 use Rattle.std.specs.List.{flat_map}
 use Rattle.std.specs.Fmt.{digit_glyph}
-use Rattle.std.specs.Int.{w128}
+use Rattle.std.specs.Int.{w128, from_bool}
 use Rattle.mmt_fields.specs.Reading.{big_endian}
 use Rattle.mmt_ip.specs.declared.packet.Ip6Header.{Ip6Header}
 use Rattle.mmt_ctx.specs.Headers.{Header}
-use Rattle.mmt_packet.specs.Spelling.{Value as Mmtp, code_of, bit}
+use Rattle.mmt_packet.specs.Spelling.{Value as Mmtp, code_of}
 use Rattle.mmt_model.specs.declared.keys.UnitKey.{UnitKey}
 use Rattle.mmt_model.specs.declared.keys.UnitKey.TheVariants.{Timed, Item}
-use Rattle.mmt_mpu.specs.Spelling.{UnitValue, Value as Mpu, part_number}
+use Rattle.mmt_model.specs.Parts.{part_number}
+use Rattle.mmt_mpu.specs.Spelling.{UnitValue, Value as Mpu}
 
 -- the two hexadecimal digits of a byte, the high one first
 abbrev pub hex_byte : ℕ → List ℕ
@@ -49,11 +50,11 @@ ctx_text h = codes " | cid " ++ decimal h.context ++ codes " seq " ++ decimal h.
 -- an MMTP packet: the fields of its header, and the length of its payload in bytes (ISO/IEC 23008-1, the MMTP packet header)
 unfoldable pub mmtp_text : Mmtp → List ℕ
 mmtp_text p = codes " | mmtp id " ++ decimal p.packet_id ++ codes " type " ++ decimal (code_of p.kind) ++ codes " time " ++ decimal p.time
-    ++ codes " number " ++ decimal p.number ++ codes " rap " ++ decimal (bit p.rap) ++ codes " payload " ++ decimal (length p.payload)
+    ++ codes " number " ++ decimal p.number ++ codes " rap " ++ decimal (from_bool p.rap) ++ codes " payload " ++ decimal (length p.payload)
 
 -- an MPU payload: its MPU, whether it is timed, which part it carries, and how many units (ISO/IEC 23008-1, MPU mode)
 unfoldable pub mpu_text : Mpu → List ℕ
-mpu_text v = codes " | mpu " ++ decimal v.head.mpu ++ codes " timed " ++ decimal (bit v.head.timed) ++ codes " part " ++ decimal (part_number v.head.part)
+mpu_text v = codes " | mpu " ++ decimal v.head.mpu ++ codes " timed " ++ decimal (from_bool v.head.timed) ++ codes " part " ++ decimal (part_number v.head.part)
     ++ codes " units " ++ decimal (length v.units)
 
 -- the numbers of a unit's key: movie fragment, sample and offset of timed media, or the item

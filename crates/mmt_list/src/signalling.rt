@@ -14,7 +14,6 @@ ghost use Rattle.mmt_words.specs.Words.{message_word, mpt_word};
 ghost use Rattle.mmt_list.specs.Signalling.{refused_part, mpt_text, table_text, hrbm_text, other_text, message_text, read_text, messages_text, sig_text};
 
 use crate::names::put_names;
-use crate::texts::number_of;
 use itoa::Buffer;
 use mmt_base::OutOfMemory;
 use mmt_fields::put_bytes;
@@ -33,7 +32,7 @@ pub fn put_sig(digits: &mut Buffer, out: &mut Vec<u8>, payload: &SigPayload<'_>)
     ensures capacity { vec_capacity out.old ≤ vec_capacity out.new }
 {
     let head = payload.head();
-    put_number(digits, out, b" | sig part ", number_of(head.part));
+    put_number(digits, out, b" | sig part ", head.part.indicator() as u64);
     put_number(digits, out, b" messages ", payload.count() as u64);
 }
 

@@ -4,9 +4,8 @@ ghost use Rattle.std.specs.Prelude.{◌≡◌, ℕ, ◌+◌, ◌*◌, ◌/◌, �
 ghost use Rattle.std.specs.Fmt.{digit_glyph};
 ghost use Rattle.std.specs.List.{flat_map};
 ghost use Rattle.mmt_ctx.specs.Headers.{view as view_opened};
-ghost use Rattle.mmt_packet.specs.Spelling.{view as view_packet, code_of, bit as packet_bit};
+ghost use Rattle.mmt_packet.specs.Spelling.{view as view_packet, code_of};
 ghost use Rattle.mmt_mpu.specs.View.{view as view_payload};
-ghost use Rattle.mmt_mpu.specs.Spelling.{part_number, bit as payload_bit};
 ghost use Rattle.mmt_mpu.specs.Head.{view_unit};
 ghost use Rattle.mmt_list.specs.Text.{hex_byte, kind_word, head_text, address_text, end_text, ends_text, header_text, ctx_text, mmtp_text, mpu_text, key_text, unit_text, units_text};
 
@@ -14,7 +13,7 @@ use itoa::Buffer;
 use mmt_ctx::Opened;
 use mmt_fields::put_bytes;
 use mmt_ip::Ip6Header;
-use mmt_model::{Part, UnitKey};
+use mmt_model::UnitKey;
 use mmt_mpu::{DataUnit, MpuPayload};
 use mmt_packet::{Kind, Packet};
 use mmt_words::put_number;
@@ -156,14 +155,6 @@ pub fn put_ctx(digits: &mut Buffer, out: &mut Vec<u8>, packet: &Opened<'_>)
     put_header(digits, out, packet.full, &packet.header);
 }
 
-// A flag as 0 or 1.
-fn bit(flag: bool) -> u64
-    ensures packet { result ≡ packet_bit flag }
-    ensures payload { result ≡ payload_bit flag }
-{
-    if flag { 1 } else { 0 }
-}
-
 // The type of a kind of MMTP packet.
 fn type_of(kind: Kind) -> u64
     ensures { result ≡ code_of kind }
@@ -188,20 +179,8 @@ pub fn put_mmtp(digits: &mut Buffer, out: &mut Vec<u8>, packet: &Packet<'_>)
     put_number(digits, out, b" type ", type_of(packet.kind));
     put_number(digits, out, b" time ", packet.time.0 as u64);
     put_number(digits, out, b" number ", packet.number as u64);
-    put_number(digits, out, b" rap ", bit(packet.rap));
+    put_number(digits, out, b" rap ", u64::from(packet.rap));
     put_number(digits, out, b" payload ", packet.payload.len() as u64);
-}
-
-/// The fragmentation indicator of a part.
-pub fn number_of(part: Part) -> u64
-    ensures { result ≡ part_number part }
-{
-    match part {
-        Part::Whole => 0,
-        Part::First => 1,
-        Part::Middle => 2,
-        Part::Last => 3,
-    }
 }
 
 /// Appends the section of an MPU payload up to its units.
@@ -215,8 +194,8 @@ pub fn put_mpu(digits: &mut Buffer, out: &mut Vec<u8>, payload: &MpuPayload<'_>)
 {
     let head = payload.head();
     put_number(digits, out, b" | mpu ", head.mpu as u64);
-    put_number(digits, out, b" timed ", bit(head.timed));
-    put_number(digits, out, b" part ", number_of(head.part));
+    put_number(digits, out, b" timed ", u64::from(head.timed));
+    put_number(digits, out, b" part ", head.part.indicator() as u64);
     put_number(digits, out, b" units ", payload.count() as u64);
 }
 

@@ -1,23 +1,26 @@
 -- What is read as a payload was spelled so, and what is spelled so is read.
 use Rattle.std.proofs.Common.{◌≡◌, ℕ, zero, suc, ◌+◌, ◌-◌, ◌*◌, ◌/◌, ◌%◌, ◌^◌, ◌<◌, ◌≤◌, Bool, true, false, ◌&&◌, ◌||◌, eqb, leb, List, [], ◌∷◌, ◌++◌, length, Option, Some, None, Result, Ok, Err, refl, sym, ap, subst, ◌∙◌, append_assoc, arith, eq-eqb}
 use Rattle.std.specs.List.{flat_map}
-use Rattle.std.specs.Int.{w8, w16, w32}
+use Rattle.std.specs.Int.{w8, w16, w32, from_bool}
 use Rattle.std.proofs.lemmas.Bool.{eqb-true, leb-true, le-leb, and_parts, and_from, or_left, or_right}
 use Rattle.std.proofs.lemmas.List.{length-append, append-nil}
 use Rattle.std.proofs.lemmas.List.Concat.{flat_map-cons}
 use Rattle.mmt_base.specs.declared.refused.Refused.{Refused}
 use Rattle.mmt_fields.specs.Reading.{◌>>=◌, big_endian}
+use Rattle.mmt_fields.proofs.Flags.{bit_below, bit_is, is_bit}
 use Rattle.mmt_fields.proofs.Codec.{IsBytes, IsBytes-rest, bind_ok, ok_is, Stage, Field, Format, Always, field, field_of, checked, checked_rest, made, last, spelled}
 use Rattle.mmt_fields.proofs.Numbers.{u8_field, u16_field, u32_field, bytes_field, length_big_endian}
 use Rattle.mmt_model.specs.declared.keys.UnitKey.{UnitKey}
 use Rattle.mmt_model.specs.declared.keys.UnitKey.TheVariants.{Timed, Item}
 use Rattle.mmt_model.specs.declared.keys.Part.{Part}
 use Rattle.mmt_model.specs.declared.keys.Part.TheVariants as parts
+use Rattle.mmt_model.specs.Parts.{part_number, part_of, IsWholeIf}
+use Rattle.mmt_model.proofs.Parts.{part_below, part_again, number_again}
 use Rattle.mmt_mpu.specs.declared.types.MpuHead.{MpuHead}
 use Rattle.mmt_mpu.specs.declared.types.MpuWhy.{MpuWhy}
 use Rattle.mmt_mpu.specs.declared.types.MpuWhy.TheVariants as why
-use Rattle.mmt_mpu.specs.Spelling.{UnitHead, UnitValue, movie_fragment_of, sample_of, offset_of, item_of, head_length, head_bytes, lone_bytes, unit_bytes, units_bytes, bit, part_number, flags, inner_length, spelling, KeyFits, HeadFits, UnitFits, end_of, UnitsFit, LoneFits, AreUnits, IsWholeIf, Fits}
-use Rattle.mmt_mpu.specs.Reading.{head_at, unit_at, lone_at, Walk, go_on, walk, all_units, unless_stopped, units_of, part_of, payload_of}
+use Rattle.mmt_mpu.specs.Spelling.{UnitHead, UnitValue, movie_fragment_of, sample_of, offset_of, item_of, head_length, head_bytes, lone_bytes, unit_bytes, units_bytes, flags, inner_length, spelling, KeyFits, HeadFits, UnitFits, end_of, UnitsFit, LoneFits, AreUnits, Fits}
+use Rattle.mmt_mpu.specs.Reading.{head_at, unit_at, lone_at, Walk, go_on, walk, all_units, unless_stopped, units_of, payload_of}
 use Rattle.mmt_mpu.proofs.Walk.{HeadRest, UnitRest, unit_shorter, step, ended}
 
 -- ---- a unit's header
@@ -196,38 +199,6 @@ units_format false timed = one_format timed
 
 -- ---- the flags
 
-bit_below : (b : Bool) → bit b < 2
-bit_below true = omega arith
-bit_below false = omega arith
-
-part_below : (p : Part) → part_number p < 4
-part_below parts.Whole = omega arith
-part_below parts.First = omega arith
-part_below parts.Middle = omega arith
-part_below parts.Last = omega arith
-
-part_again : (p : Part) → part_of (part_number p) ≡ p
-part_again parts.Whole = refl
-part_again parts.First = refl
-part_again parts.Middle = refl
-part_again parts.Last = refl
-
-number_again : (n : ℕ) → n < 4 → part_number (part_of n) ≡ n
-number_again zero lt = refl
-number_again (suc zero) lt = refl
-number_again (suc (suc zero)) lt = refl
-number_again (suc (suc (suc zero))) lt = refl
-number_again (suc (suc (suc (suc n)))) lt = absurd (omega arith)
-
-is_bit : (b : Bool) (m : ℕ) → m ≡ bit b → eqb m 1 ≡ b
-is_bit true m e = rw e refl
-is_bit false m e = rw e refl
-
-bit_is : (m : ℕ) → m < 2 → bit (eqb m 1) ≡ m
-bit_is zero lt = refl
-bit_is (suc zero) lt = refl
-bit_is (suc (suc m)) lt = absurd (omega arith)
-
 flags_timed : (h : MpuHead) → eqb (flags h / 8 % 2) 1 ≡ h.timed
 flags_timed h = is_bit h.timed _ (omega (arith, bit_below h.timed, bit_below h.aggregated, part_below h.part))
 
@@ -243,7 +214,7 @@ flags_type h = omega (arith, bit_below h.timed, bit_below h.aggregated, part_bel
 whole_right : (h : MpuHead) → IsWholeIf h.aggregated h.part → (eqb (flags h % 2) 0 || eqb (flags h / 2 % 4) 0) ≡ true
 whole_right h f = of h.aggregated h.part h.timed (flags h) refl f
   where
-    of : (a : Bool) (p : Part) (t : Bool) (n : ℕ) → n ≡ 32 + 8 * bit t + 2 * part_number p + bit a → IsWholeIf a p → (eqb (n % 2) 0 || eqb (n / 2 % 4) 0) ≡ true
+    of : (a : Bool) (p : Part) (t : Bool) (n : ℕ) → n ≡ 32 + 8 * from_bool t + 2 * part_number p + from_bool a → IsWholeIf a p → (eqb (n % 2) 0 || eqb (n / 2 % 4) 0) ≡ true
     of false p t n e f = or_left (eqb (n % 2) 0) (eqb (n / 2 % 4) 0) (eq-eqb _ _ (omega (arith, bit_below t, part_below p)))
     of true p t n e f = let z : part_number p ≡ 0 = ap part_number f in or_right (eqb (n % 2) 0) (eqb (n / 2 % 4) 0) (eq-eqb _ _ (omega (arith, bit_below t)))
 
@@ -255,7 +226,7 @@ whole_back a e = of (a % 2) (a / 2 % 4) (omega arith) e
     of (suc zero) n lt e = ap part_of (eqb-true n 0 e)
     of (suc (suc m)) n lt e = absurd (omega arith)
 
-flags_again : (a : ℕ) → a / 16 ≡ 2 → 32 + 8 * bit (eqb (a / 8 % 2) 1) + 2 * part_number (part_of (a / 2 % 4)) + bit (eqb (a % 2) 1) ≡ a
+flags_again : (a : ℕ) → a / 16 ≡ 2 → 32 + 8 * from_bool (eqb (a / 8 % 2) 1) + 2 * part_number (part_of (a / 2 % 4)) + from_bool (eqb (a % 2) 1) ≡ a
 flags_again a e = rw (bit_is (a / 8 % 2) (omega arith), bit_is (a % 2) (omega arith), number_again (a / 2 % 4) (omega arith)) (omega arith)
 
 -- ---- the payload

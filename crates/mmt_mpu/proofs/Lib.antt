@@ -2,3 +2,4 @@ pub mod Walk
 pub mod Law
 pub mod Calls
 pub mod Written
+pub mod Places

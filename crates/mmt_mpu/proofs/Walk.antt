@@ -16,9 +16,9 @@ HeadRest = UnitHead × List ℕ
 abbrev pub UnitRest : Type 0
 UnitRest = UnitValue × List ℕ
 
-head_shorter : (timed : Bool) (at : ℕ) (bytes : List ℕ) (x : HeadRest) → head_at timed at bytes ≡ Ok x → length x.1 ≤ length bytes
+pub head_leaves : (timed : Bool) (at : ℕ) (bytes : List ℕ) (x : HeadRest) → head_at timed at bytes ≡ Ok x → length x.1 + head_length timed ≡ length bytes
 unfolding head_at
-head_shorter true at bytes x e =
+head_leaves true at bytes x e =
     let a = bind_ok (number_at w32 bytes at why.Short) _ x e in
     let b = bind_ok (number_at w32 a.0.1 (at + 4) why.Short) _ x a.2 in
     let c = bind_ok (number_at w32 b.0.1 (at + 8) why.Short) _ x b.2 in
@@ -26,7 +26,7 @@ head_shorter true at bytes x e =
     let d = bind_ok (number_at w8 p.0.1 (at + 13) why.Short) _ x p.2 in
     let is : length d.0.1 ≡ length x.1 = ap (λ (y : HeadRest). length y.1) (ok_is _ x d.2) in
     omega (arith, number_leaves w32 bytes at why.Short a.0 a.1, number_leaves w32 a.0.1 (at + 4) why.Short b.0 b.1, number_leaves w32 b.0.1 (at + 8) why.Short c.0 c.1, number_leaves w8 c.0.1 (at + 12) why.Short p.0 p.1, number_leaves w8 p.0.1 (at + 13) why.Short d.0 d.1)
-head_shorter false at bytes x e =
+head_leaves false at bytes x e =
     let a = bind_ok (number_at w32 bytes at why.Short) _ x e in
     let is : length a.0.1 ≡ length x.1 = ap (λ (y : HeadRest). length y.1) (ok_is _ x a.2) in
     omega (arith, number_leaves w32 bytes at why.Short a.0 a.1)
@@ -39,7 +39,7 @@ unit_shorter timed at bytes x e =
     let h = bind_ok (head_at timed (at + 2) a.0.1) _ x w.2 in
     let b = bind_ok (bytes_at (a.0.0 - head_length timed) h.0.1 (at + 2 + head_length timed) why.Short) _ x h.2 in
     let is : length b.0.1 ≡ length x.1 = ap (λ (y : UnitRest). length y.1) (ok_is _ x b.2) in
-    omega (arith, number_leaves w16 bytes at why.Short a.0 a.1, head_shorter timed (at + 2) a.0.1 h.0 h.1, bytes_leave (a.0.0 - head_length timed) h.0.1 (at + 2 + head_length timed) why.Short b.0 b.1)
+    omega (arith, number_leaves w16 bytes at why.Short a.0 a.1, head_leaves timed (at + 2) a.0.1 h.0 h.1, bytes_leave (a.0.0 - head_length timed) h.0.1 (at + 2 + head_length timed) why.Short b.0 b.1)
 
 same_after : (r : Result UnitRest (Refused MpuWhy)) (f g : UnitRest → Walk) → ((u : UnitRest) → r ≡ Ok u → f u ≡ g u) → go_on r f ≡ go_on r g
 same_after (Ok u) f g same = ap (λ (w : Walk). go_on (Ok u) (λ _. w)) (same u refl)

@@ -5,8 +5,7 @@ use Rattle.std.specs.Int.{w8, w16, w32}
 use Rattle.mmt_base.specs.declared.refused.Refused.{Refused}
 use Rattle.mmt_fields.specs.Reading.{◌>>=◌, number_at, bytes_at, check}
 use Rattle.mmt_model.specs.declared.keys.UnitKey.TheVariants.{Timed, Item}
-use Rattle.mmt_model.specs.declared.keys.Part.{Part}
-use Rattle.mmt_model.specs.declared.keys.Part.TheVariants as parts
+use Rattle.mmt_model.specs.Parts.{part_of}
 use Rattle.mmt_mpu.specs.declared.types.MpuWhy.{MpuWhy}
 use Rattle.mmt_mpu.specs.declared.types.MpuWhy.TheVariants as why
 use Rattle.mmt_mpu.specs.Spelling.{UnitHead, UnitValue, Value, head_length, end_of}
@@ -69,13 +68,6 @@ unless_stopped (Some e) x = Err e
 unfoldable pub units_of : Bool → Bool → List ℕ → Result (List UnitValue) (Refused MpuWhy)
 units_of true timed bytes = unless_stopped (all_units timed 8 bytes).stop (all_units timed 8 bytes).units
 units_of false timed bytes = lone_at timed 8 bytes >>= λ u. Ok (u ∷ [])
-
--- the part of a fragmentation indicator below 4 (ISO/IEC 23008-1, the payload header for MPU mode, f_i)
-abbrev pub part_of : ℕ → Part
-part_of zero = parts.Whole
-part_of (suc zero) = parts.First
-part_of (suc (suc zero)) = parts.Middle
-part_of (suc (suc (suc n))) = parts.Last
 
 -- the payload that the bytes are, or the first check that they fail with its place
 unfoldable pub payload_of : List ℕ → Result Value (Refused MpuWhy)

@@ -1,12 +1,11 @@
 -- What an MPU payload is, and the bytes that it is spelled by (ISO/IEC 23008-1, the payload header for MPU mode).
 use Rattle.std.specs.Prelude.{◌≡◌, ℕ, ◌+◌, ◌*◌, ◌^◌, ◌<◌, Bool, true, false, List, [], ◌∷◌, ◌++◌, length}
 use Rattle.std.specs.List.{flat_map}
-use Rattle.std.specs.Int.{w8, w16, w32}
+use Rattle.std.specs.Int.{w8, w16, w32, from_bool}
 use Rattle.mmt_fields.specs.Reading.{big_endian}
 use Rattle.mmt_model.specs.declared.keys.UnitKey.{UnitKey}
 use Rattle.mmt_model.specs.declared.keys.UnitKey.TheVariants.{Timed, Item}
-use Rattle.mmt_model.specs.declared.keys.Part.{Part}
-use Rattle.mmt_model.specs.declared.keys.Part.TheVariants as parts
+use Rattle.mmt_model.specs.Parts.{part_number, IsWholeIf}
 use Rattle.mmt_mpu.specs.declared.types.MpuHead.{MpuHead}
 
 -- the values of a data unit's header (ISO/IEC 23008-1, the data unit header)
@@ -69,22 +68,10 @@ unfoldable pub units_bytes : Bool → Bool → List UnitValue → List ℕ
 units_bytes true timed us = flat_map (unit_bytes timed) us
 units_bytes false timed us = flat_map (lone_bytes timed) us
 
--- a flag as one bit
-abbrev pub bit : Bool → ℕ
-bit true = 1
-bit false = 0
-
--- the fragmentation indicator of a part (ISO/IEC 23008-1, the payload header for MPU mode, f_i)
-abbrev pub part_number : Part → ℕ
-part_number parts.Whole = 0
-part_number parts.First = 1
-part_number parts.Middle = 2
-part_number parts.Last = 3
-
 -- the third byte: fragment type 2, data units, in four bits, the timed flag, the fragmentation indicator in two bits, and the
 -- aggregation flag
 abbrev pub flags : MpuHead → ℕ
-flags h = 32 + 8 * bit h.timed + 2 * part_number h.part + bit h.aggregated
+flags h = 32 + 8 * from_bool h.timed + 2 * part_number h.part + from_bool h.aggregated
 
 -- the payload length: how many bytes stand after its field
 abbrev pub inner_length : Value → ℕ
@@ -136,11 +123,6 @@ LoneFits timed (u ∷ w ∷ us) = ⊥
 abbrev pub AreUnits : Bool → Bool → List UnitValue → Type 0
 AreUnits true timed us = UnitsFit timed 8 us
 AreUnits false timed us = LoneFits timed us
-
--- an aggregated payload carries whole units (ISO/IEC 23008-1, the payload header for MPU mode, f_i and A)
-abbrev pub IsWholeIf : Bool → Part → Type 0
-IsWholeIf true part = part ≡ parts.Whole
-IsWholeIf false part = Unit {0}
 
 -- a payload that has a spelling: its fields are in the range of their widths, and its units fit
 pub record Fits (v : Value) : Type 0 where

@@ -7,7 +7,8 @@ use Rattle.mmt_fields.specs.Reading.{big_endian}
 use Rattle.mmt_model.specs.declared.keys.UnitKey.{UnitKey}
 use Rattle.mmt_model.specs.declared.keys.UnitKey.TheVariants.{Timed, Item}
 use Rattle.mmt_mpu.specs.declared.types.MpuHead.{MpuHead}
-use Rattle.mmt_mpu.specs.Spelling.{UnitValue, UnitHead, flags, unit_bytes, lone_bytes, head_length, spelling, HeadFits, IsWholeIf}
+use Rattle.mmt_model.specs.Parts.{IsWholeIf}
+use Rattle.mmt_mpu.specs.Spelling.{UnitValue, UnitHead, flags, unit_bytes, lone_bytes, head_length, spelling, HeadFits}
 use Rattle.mmt_mpu.specs.Reading.{payload_of}
 
 -- the bytes of a unit in a payload: after its length where the payload is aggregated, and else alone

@@ -3,7 +3,7 @@
 ghost use Rattle.std.specs.Prelude.{◌≡◌, ◌+◌, ◌<◌, ◌≤◌, ◌^◌, length, not, IfOk, IfErr, Ok, Some, None, MatchResult};
 ghost use Rattle.mmt_fields.specs.Reading.{Gives};
 ghost use Rattle.mmt_mpu.specs.Spelling.{Value, Fits, spelling};
-ghost use Rattle.mmt_mpu.specs.Reading.{payload_of, units_of, all_units, part_of as part_by};
+ghost use Rattle.mmt_mpu.specs.Reading.{payload_of, units_of, all_units};
 ghost use Rattle.mmt_mpu.specs.Left.{left};
 ghost use Rattle.mmt_mpu.specs.View.{view};
 
@@ -51,18 +51,6 @@ fn count_of(aggregated: bool, timed: bool, bytes: &[u8]) -> Result<u32, Refused<
     }
 }
 
-/// The part of a fragmentation indicator below 4.
-fn part_of(number: u8) -> Part
-    ensures { result ≡ part_by number }
-{
-    match number {
-        0 => Part::Whole,
-        1 => Part::First,
-        2 => Part::Middle,
-        _ => Part::Last,
-    }
-}
-
 /// The payload that the bytes are, or the first refusal.
 #[tactic(auto, unfolding(crate::specs::Reading::payload_of))]
 fn mpu_payload(bytes: &[u8]) -> Result<MpuPayload<'_>, Refused<MpuWhy>>
@@ -105,7 +93,7 @@ fn mpu_payload(bytes: &[u8]) -> Result<MpuPayload<'_>, Refused<MpuWhy>>
     let count = count_of(aggregated, timed, body)?;
     let head = MpuHead {
         timed,
-        part: part_of(part),
+        part: Part::from_indicator(part),
         aggregated,
         counter,
         mpu,

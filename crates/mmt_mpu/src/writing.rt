@@ -1,7 +1,7 @@
 //! Writing a payload unit by unit, its length last.
 
 ghost use Rattle.std.specs.Prelude.{◌≡◌, ◌+◌, ◌≤◌, ◌++◌, length, vec_len, vec_capacity};
-ghost use Rattle.mmt_mpu.specs.Spelling.{head_bytes, head_length as length_of, HeadFits, flags as flags_of, part_number as number_of, bit as bit_of};
+ghost use Rattle.mmt_mpu.specs.Spelling.{head_bytes, head_length as length_of, HeadFits, flags as flags_of};
 ghost use Rattle.mmt_mpu.specs.Head.{view_unit};
 ghost use Rattle.mmt_mpu.specs.Writing.{unit_length as length_by, FitsKind, CallsWriteThePayload, WrittenIsRead};
 
@@ -9,7 +9,7 @@ use crate::head::head_length;
 use crate::types::{DataUnit, MpuHead};
 use mmt_base::OutOfMemory;
 use mmt_fields::{patch_u16, put_bytes, put_u8, put_u16, put_u32};
-use mmt_model::{Part, UnitKey};
+use mmt_model::UnitKey;
 use std::marker::Model;
 
 /// A payload that is being written at the end of a vector: where it begins there, its header, how
@@ -33,30 +33,11 @@ impl Model for MpuWriter {
     ghost invariant = { λ w. (w.units + 8 ≤ w.bytes) × (w.bytes ≤ 65537) };
 }
 
-/// The flag as one bit.
-fn bit(flag: bool) -> u8
-    ensures { result ≡ bit_of flag }
-{
-    if flag { 1 } else { 0 }
-}
-
-/// The fragmentation indicator of a part.
-fn part_number(part: Part) -> u8
-    ensures { result ≡ number_of part }
-{
-    match part {
-        Part::Whole => 0,
-        Part::First => 1,
-        Part::Middle => 2,
-        Part::Last => 3,
-    }
-}
-
 /// The byte of the fragment type and the flags.
 fn flags(head: &MpuHead) -> u8
     ensures { result ≡ flags_of head.now }
 {
-    32 + 8 * bit(head.timed) + 2 * part_number(head.part) + bit(head.aggregated)
+    32 + 8 * u8::from(head.timed) + 2 * head.part.indicator() + u8::from(head.aggregated)
 }
 
 /// Appends the unit's header.
@@ -96,7 +77,8 @@ fn unit_length(aggregated: bool, timed: bool, unit: &DataUnit<'_>) -> usize
 
 impl MpuWriter {
     ghost use Rattle.std.specs.Prelude.{◌≡◌, ◌+◌, ◌<◌, ◌≤◌, ◌^◌, ◌++◌, length, IfOk, OnOk, OnErr};
-    ghost use Rattle.mmt_mpu.specs.Spelling.{IsWholeIf, HeadFits};
+    ghost use Rattle.mmt_model.specs.Parts.{IsWholeIf};
+    ghost use Rattle.mmt_mpu.specs.Spelling.{HeadFits};
     ghost use Rattle.mmt_mpu.specs.Head.{view_unit};
     ghost use Rattle.mmt_mpu.specs.Writing.{written_unit, unit_length, begun, ended, FitsKind, HasRoom, IsFull};
 

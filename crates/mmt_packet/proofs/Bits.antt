@@ -1,33 +1,19 @@
 -- The two bytes of flags, taken apart and put together.
 use Rattle.std.proofs.Common.{◌≡◌, ℕ, zero, suc, ◌+◌, ◌*◌, ◌/◌, ◌%◌, ◌^◌, ◌<◌, Bool, true, false, eqb, ltb, refl, arith, eq-eqb}
 use Rattle.std.proofs.lemmas.Bool.{lt-ltb, ltb-true, eqb-true}
+use Rattle.std.specs.Int.{from_bool}
+use Rattle.mmt_fields.proofs.Flags.{bit_below, is_bit, bit_is}
 use Rattle.mmt_packet.specs.declared.packet.Kind.{Kind}
 use Rattle.mmt_packet.specs.declared.packet.Kind.TheVariants as kinds
-use Rattle.mmt_packet.specs.Spelling.{bit, code_of}
+use Rattle.mmt_packet.specs.Spelling.{code_of}
 use Rattle.mmt_packet.specs.Reading.{kind_of}
 
 -- flags c, x and r, and reserved bits n
 abbrev pub one : Bool → Bool → Bool → ℕ → ℕ
-one c x r n = 32 * bit c + 4 * (n / 4) + 2 * bit x + bit r
+one c x r n = 32 * from_bool c + 4 * (n / 4) + 2 * from_bool x + from_bool r
 
 abbrev pub two : Kind → ℕ → ℕ
 two k n = 64 * (n % 4) + code_of k
-
-pub bit_below : (b : Bool) → bit b < 2
-bit_below true = omega arith
-bit_below false = omega arith
-
-pub bit_is : (n : ℕ) → bit (eqb (n % 2) 1) ≡ n % 2
-bit_is n = of_low (n % 2) (omega arith)
-  where
-    of_low : (m : ℕ) → m < 2 → bit (eqb m 1) ≡ m
-    of_low zero lt = refl
-    of_low (suc zero) lt = refl
-    of_low (suc (suc m)) lt = absurd (omega arith)
-
-pub is_bit : (b : Bool) (m : ℕ) → m ≡ bit b → eqb m 1 ≡ b
-is_bit true m e = rw e refl
-is_bit false m e = rw e refl
 
 pub one_below : (c x r : Bool) (n : ℕ) → n < 8 → one c x r n < 2 ^ 8
 one_below c x r n lt = omega (arith, bit_below c, bit_below x, bit_below r)
@@ -84,7 +70,7 @@ pub one_again : (a b : ℕ) → a < 2 ^ 8 → b < 2 ^ 8 → eqb (a / 64) 0 ≡ t
 one_again a b al bl version fec =
     let v : a / 64 ≡ 0 = eqb-true _ _ version in
     let f : a / 8 % 4 ≡ 0 = eqb-true _ _ fec in
-    rw (bit_is (a / 32), bit_is (a / 2), bit_is a) (omega arith)
+    rw (bit_is (a / 32 % 2) (omega arith), bit_is (a / 2 % 2) (omega arith), bit_is (a % 2) (omega arith)) (omega arith)
 
 pub two_again : (a b : ℕ) → b < 2 ^ 8 → ltb (b % 64) 3 ≡ true → two (kind_of (b % 64)) (4 * (a / 4 % 2) + b / 64) ≡ b
 two_again a b bl known =

@@ -1,13 +1,13 @@
 -- How long a spelling is.
 use Rattle.std.proofs.Common.{◌≡◌, ℕ, ◌+◌, ◌*◌, length, Option, Some, None, refl, arith}
 use Rattle.std.specs.Option.{is_some}
-use Rattle.std.specs.Int.{w32}
+use Rattle.std.specs.Int.{w32, from_bool}
 use Rattle.std.proofs.lemmas.List.{length-append}
 use Rattle.mmt_fields.specs.Reading.{optional, big_endian}
 use Rattle.mmt_fields.proofs.Numbers.{length_big_endian}
-use Rattle.mmt_packet.specs.Spelling.{Value, Ext, bit, extension, extension_length, head_length, spelling}
+use Rattle.mmt_packet.specs.Spelling.{Value, Ext, extension, extension_length, head_length, spelling}
 
-counter_long : (o : Option ℕ) → length (optional (big_endian w32) o) ≡ 4 * bit (is_some o)
+counter_long : (o : Option ℕ) → length (optional (big_endian w32) o) ≡ 4 * from_bool (is_some o)
 counter_long None = refl
 counter_long (Some n) = length_big_endian w32 n
 

@@ -1,7 +1,7 @@
 -- What an MMTP packet is, and the bytes that it is spelled by (ISO/IEC 23008-1, the MMTP packet header).
 use Rattle.std.specs.Prelude.{◌≡◌, ℕ, ◌+◌, ◌*◌, ◌/◌, ◌%◌, ◌^◌, ◌<◌, Bool, true, false, ◌&&◌, not, ◌==◌, nat_le, List, ◌++◌, length, slice_index, Option, Some, None, IfSome}
 use Rattle.std.specs.Option.{is_some}
-use Rattle.std.specs.Int.{w8, w16, w32}
+use Rattle.std.specs.Int.{w8, w16, w32, from_bool}
 use Rattle.mmt_fields.specs.Reading.{big_endian, optional}
 use Rattle.mmt_packet.specs.declared.packet.Kind.{Kind}
 use Rattle.mmt_packet.specs.declared.packet.Kind.TheVariants as kinds
@@ -31,15 +31,10 @@ code_of kinds.Mpu = 0
 code_of kinds.Generic = 1
 code_of kinds.Signalling = 2
 
--- a flag as one bit
-abbrev pub bit : Bool → ℕ
-bit true = 1
-bit false = 0
-
 -- the first byte: version 0 in two bits, whether there is a counter, FEC type 0 in two bits, the first reserved bit, whether there is an
 -- extension, and whether it is a random access point
 abbrev pub first_byte : Value → ℕ
-first_byte v = 32 * bit (is_some v.counter) + 4 * (v.reserved / 4) + 2 * bit (is_some v.extension) + bit v.rap
+first_byte v = 32 * from_bool (is_some v.counter) + 4 * (v.reserved / 4) + 2 * from_bool (is_some v.extension) + from_bool v.rap
 
 -- the second byte: the two other reserved bits, and the type in six bits
 abbrev pub second_byte : Value → ℕ
@@ -56,7 +51,7 @@ extension_length (Some e) = 4 + length e.bytes
 
 -- how many bytes stand before the payload
 abbrev pub head_length : Value → ℕ
-head_length v = 12 + 4 * bit (is_some v.counter) + extension_length v.extension
+head_length v = 12 + 4 * from_bool (is_some v.counter) + extension_length v.extension
 
 -- the bytes of a packet: each field in its width, in the order of the header, and then the payload
 unfoldable pub spelling : Value → List ℕ

@@ -2,20 +2,13 @@
 
 ghost use Rattle.std.specs.Prelude.{◌≡◌, ◌+◌, ◌*◌, ◌<◌, ◌≤◌, ◌^◌, ◌++◌, length, vec_len, vec_capacity, IfSome, OnOk, OnErr};
 ghost use Rattle.std.specs.Option.{is_some};
-ghost use Rattle.std.specs.Int.{w32};
+ghost use Rattle.std.specs.Int.{w32, from_bool};
 ghost use Rattle.mmt_fields.specs.Reading.{big_endian, optional};
-ghost use Rattle.mmt_packet.specs.Spelling.{CanSpell, Fits, view, view_option, spelling, first_byte as byte_one, second_byte as byte_two, extension as extension_bytes, extension_length as length_of, head_length as head_of, code_of as number_of, bit as bit_of};
+ghost use Rattle.mmt_packet.specs.Spelling.{CanSpell, Fits, view, view_option, spelling, first_byte as byte_one, second_byte as byte_two, extension as extension_bytes, extension_length as length_of, head_length as head_of, code_of as number_of};
 
 use crate::packet::{Extension, Kind, Packet};
 use mmt_base::OutOfMemory;
 use mmt_fields::{put_bytes, put_u8, put_u16, put_u32};
-
-/// The flag as one bit.
-fn bit(flag: bool) -> u8
-    ensures { result ≡ bit_of flag }
-{
-    if flag { 1 } else { 0 }
-}
 
 /// The type field of a kind.
 fn code_of(kind: Kind) -> u8
@@ -33,10 +26,10 @@ fn first_byte(packet: &Packet<'_>) -> u8
     requires { packet.now.reserved < 8 }
     ensures { result ≡ byte_one (view packet.now) }
 {
-    32 * bit(packet.counter.is_some())
+    32 * u8::from(packet.counter.is_some())
         + 4 * (packet.reserved / 4)
-        + 2 * bit(packet.extension.is_some())
-        + bit(packet.rap)
+        + 2 * u8::from(packet.extension.is_some())
+        + u8::from(packet.rap)
 }
 
 /// The byte of the two other reserved bits and the type.
@@ -59,7 +52,7 @@ fn extension_length(extension: &Option<Extension<'_>>) -> u32
 
 /// How many bytes the packet counter takes.
 fn counter_length(counter: Option<u32>) -> u32
-    ensures { result ≡ 4 * bit_of (is_some counter) }
+    ensures { result ≡ 4 * from_bool (is_some counter) }
 {
     if counter.is_some() { 4 } else { 0 }
 }
@@ -84,10 +77,10 @@ pub fn header_length(packet: &Packet<'_>) -> u32
 
 /// Appends the packet counter, where there is one.
 fn put_counter(out: &mut Vec<u8>, counter: Option<u32>)
-    requires { vec_len out.old + 4 * bit_of (is_some counter) ≤ vec_capacity out.old }
+    requires { vec_len out.old + 4 * from_bool (is_some counter) ≤ vec_capacity out.old }
     ensures items { out.new.items ≡ out.old.items ++ optional (big_endian w32) counter }
     ensures fits { IfSome counter (λ n. n < 2 ^ 32) }
-    ensures len { vec_len out.new ≡ vec_len out.old + 4 * bit_of (is_some counter) }
+    ensures len { vec_len out.new ≡ vec_len out.old + 4 * from_bool (is_some counter) }
     ensures capacity { vec_capacity out.old ≤ vec_capacity out.new }
 {
     if let Some(counter) = counter {

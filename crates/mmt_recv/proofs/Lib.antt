@@ -1,6 +1,3 @@
-pub mod Within
-pub mod MpuWithin
-pub mod SigWithin
 pub mod Places
 pub mod Lines
 pub mod Heads

@@ -23,9 +23,9 @@ use Rattle.mmt_output.specs.declared.notes.Note.TheVariants as notes
 use Rattle.mmt_recv.specs.Noting.{PlacedNote, at_place, heard_notes, kind_notes, notes_of_packet, outcome_notes, payload_place, tuned_notes, unless_refused, untuned_messages, untuned_notes, untuned_signals}
 use Rattle.mmt_recv.specs.Session.{kept_by, live_of, outcome_of, rest_of}
 use Rattle.mmt_recv.specs.Places.{LieBetween, LieWithin, end_of}
-use Rattle.mmt_recv.proofs.Within.{IsWithin}
-use Rattle.mmt_recv.proofs.MpuWithin.{payload_within as mpu_within}
-use Rattle.mmt_recv.proofs.SigWithin.{payload_within as signals_within}
+use Rattle.mmt_fields.proofs.Places.{IsWithin}
+use Rattle.mmt_mpu.proofs.Places.{payload_within as mpu_within}
+use Rattle.mmt_sig.proofs.Places.{payload_within as signals_within}
 
 abbrev Between : ℕ → ℕ → PlacedNote → Type 0
 Between first last n = (first ≤ n.place) × (n.place ≤ last)

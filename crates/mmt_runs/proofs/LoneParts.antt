@@ -15,7 +15,7 @@ use Rattle.mmt_pool.specs.Holding.{packet_at as kept_at}
 use Rattle.mmt_sig.specs.declared.head.SigWhy.{SigWhy}
 use Rattle.mmt_sig.specs.Payload.{Payload as Signals}
 use Rattle.mmt_sig.specs.PayloadReading.{payload_of, messages_of}
-use Rattle.mmt_sig.specs.PayloadReading.{part_of as part_by}
+use Rattle.mmt_model.specs.Parts.{part_of as part_by}
 use Rattle.mmt_runs.specs.Reading.{heard, signals_by, payload_by, media_of}
 use Rattle.mmt_runs.proofs.Sums.{link_cost, IsWithin, weight_at, at_each, heard_length}
 use Rattle.mmt_runs.proofs.Linking.{heard_at, payload_heard}

@@ -5,3 +5,4 @@ pub mod TableSteps
 pub mod MessageLaw
 pub mod Written
 pub mod Within
+pub mod Places

@@ -11,7 +11,8 @@ use Rattle.mmt_fields.proofs.Numbers.{u8_field, u16_field, u32_field, bytes_fiel
 use Rattle.mmt_lists.proofs.CountedItems.{items_all}
 use Rattle.mmt_sig.specs.declared.head.SigWhy.TheVariants as why
 use Rattle.mmt_sig.specs.Payload.{flags, length_width, length_limit, message_bytes, itself, messages_bytes, spelling, MessageFits, MessagesFit, Fits}
-use Rattle.mmt_sig.specs.PayloadReading.{message_at, messages_of, part_of, payload_of}
+use Rattle.mmt_model.specs.Parts.{part_of}
+use Rattle.mmt_sig.specs.PayloadReading.{message_at, messages_of, payload_of}
 use Rattle.mmt_sig.proofs.MessageSteps.{Step, message_shorter}
 use Rattle.mmt_sig.proofs.Bits.{flags_below, flags_long, flags_aggregated, flags_reserved, flags_part, whole_right, whole_back, flags_again}
 

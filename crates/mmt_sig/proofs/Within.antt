@@ -33,7 +33,7 @@ bytes_taken count bytes at short x e =
     omega (arith, length-take count bytes, is)
 
 -- a message and what follows it are no longer than the bytes
-message_within : (long : Bool) (at : ℕ) (bytes : List ℕ) (x : Step) → message_at long at bytes ≡ Ok x → (length x.0 ≤ length bytes) × (length x.1 ≤ length bytes)
+pub message_within : (long : Bool) (at : ℕ) (bytes : List ℕ) (x : Step) → message_at long at bytes ≡ Ok x → (length x.0 ≤ length bytes) × (length x.1 ≤ length bytes)
 unfolding message_at
 message_within long at bytes x e =
     let a = bind_ok (number_at (length_width long) bytes at why.Short) _ x e in

@@ -1,10 +1,9 @@
 -- The signalling payload (ISO/IEC 23008-1, the header of the signalling message mode), and its one spelling.
 use Rattle.std.specs.Prelude.{◌≡◌, ℕ, ◌+◌, ◌*◌, ◌^◌, ◌<◌, Bool, true, false, List, ◌++◌, length}
 use Rattle.std.specs.List.{flat_map, All}
-use Rattle.std.specs.Int.{Width, w8, w16, w32}
+use Rattle.std.specs.Int.{Width, w8, w16, w32, from_bool}
 use Rattle.mmt_fields.specs.Reading.{big_endian}
-use Rattle.mmt_model.specs.declared.keys.Part.{Part}
-use Rattle.mmt_model.specs.declared.keys.Part.TheVariants as parts
+use Rattle.mmt_model.specs.Parts.{part_number, IsWholeIf}
 use Rattle.mmt_sig.specs.declared.head.SigHead.{SigHead}
 
 -- a payload: its header, and its messages or the one part of a message (ISO/IEC 23008-1)
@@ -12,21 +11,9 @@ pub record Payload : Type 0 where
   pub head : SigHead
   pub messages : List (List ℕ)
 
--- a flag as a bit: 1 where it is set
-abbrev pub bit : Bool → ℕ
-bit true = 1
-bit false = 0
-
--- the number f_i of a part (ISO/IEC 23008-1, fragmentation_indicator)
-abbrev pub part_number : Part → ℕ
-part_number parts.Whole = 0
-part_number parts.First = 1
-part_number parts.Middle = 2
-part_number parts.Last = 3
-
 -- the first byte: f_i in two bits, four reserved bits, the long length flag H and the aggregation flag A (ISO/IEC 23008-1)
 abbrev pub flags : SigHead → ℕ
-flags h = 64 * part_number h.part + 4 * h.reserved + 2 * bit h.long + bit h.aggregated
+flags h = 64 * part_number h.part + 4 * h.reserved + 2 * from_bool h.long + from_bool h.aggregated
 
 -- the width of a message's length: 32 bits where H is 1, and else 16 (ISO/IEC 23008-1)
 abbrev pub length_width : Bool → Width
@@ -65,11 +52,6 @@ MessageFits long m = length m < length_limit long
 abbrev pub MessagesFit : Bool → Bool → List (List ℕ) → Type 0
 MessagesFit true long ms = All (MessageFits long) ms
 MessagesFit false long ms = length ms ≡ 1
-
--- several messages are never a part
-abbrev pub IsWholeIf : Bool → Part → Type 0
-IsWholeIf true part = part ≡ parts.Whole
-IsWholeIf false part = Unit {0}
 
 -- the payloads that have a spelling: each field fits its bits
 pub record Fits (v : Payload) : Type 0 where

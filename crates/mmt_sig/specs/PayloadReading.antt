@@ -4,8 +4,7 @@ use Rattle.std.specs.Int.{w8, byte_len}
 use Rattle.mmt_base.specs.declared.refused.Refused.{Refused}
 use Rattle.mmt_fields.specs.Reading.{◌>>=◌, number_at, bytes_at, check}
 use Rattle.mmt_fields.specs.Items.{items_of}
-use Rattle.mmt_model.specs.declared.keys.Part.{Part}
-use Rattle.mmt_model.specs.declared.keys.Part.TheVariants as parts
+use Rattle.mmt_model.specs.Parts.{part_of}
 use Rattle.mmt_sig.specs.declared.head.SigWhy.{SigWhy}
 use Rattle.mmt_sig.specs.declared.head.SigWhy.TheVariants as why
 use Rattle.mmt_sig.specs.Payload.{Payload, length_width}
@@ -22,13 +21,6 @@ message_at long at bytes = do
 unfoldable pub messages_of : Bool → Bool → List ℕ → Result (List (List ℕ)) (Refused SigWhy)
 messages_of true long bytes = items_of (message_at long) 2 bytes
 messages_of false long bytes = Ok (bytes ∷ [])
-
--- the part that a number f_i stands for (ISO/IEC 23008-1, fragmentation_indicator)
-abbrev pub part_of : ℕ → Part
-part_of zero = parts.Whole
-part_of (suc zero) = parts.First
-part_of (suc (suc zero)) = parts.Middle
-part_of (suc (suc (suc n))) = parts.Last
 
 -- a payload, field by field (ISO/IEC 23008-1; the order of the checks is this project's rule)
 unfoldable pub payload_of : List ℕ → Result Payload (Refused SigWhy)

@@ -5,7 +5,7 @@ ghost use Rattle.std.specs.Int.{byte_len};
 ghost use Rattle.mmt_fields.specs.Reading.{Gives, number_at};
 ghost use Rattle.mmt_fields.specs.Items.{all_items};
 ghost use Rattle.mmt_sig.specs.Payload.{Payload, Fits, spelling, length_width as width_of};
-ghost use Rattle.mmt_sig.specs.PayloadReading.{payload_of, messages_of, message_at as message_by, part_of as part_by};
+ghost use Rattle.mmt_sig.specs.PayloadReading.{payload_of, messages_of, message_at as message_by};
 ghost use Rattle.mmt_sig.specs.Left.{left};
 ghost use Rattle.mmt_sig.specs.View.{view};
 
@@ -115,17 +115,6 @@ fn count_of(aggregated: bool, long: bool, bytes: &[u8]) -> Result<u32, Refused<S
     }
 }
 
-fn part_of(number: u8) -> Part
-    ensures { result ≡ part_by number }
-{
-    match number {
-        0 => Part::Whole,
-        1 => Part::First,
-        2 => Part::Middle,
-        _ => Part::Last,
-    }
-}
-
 #[tactic(auto, unfolding(crate::specs::PayloadReading::payload_of))]
 fn payload(bytes: &[u8]) -> Result<SigPayload<'_>, Refused<SigWhy>>
     requires { length bytes.now < 2 ^ 31 }
@@ -144,7 +133,7 @@ fn payload(bytes: &[u8]) -> Result<SigPayload<'_>, Refused<SigWhy>>
     let long = flags / 2 % 2 == 1;
     let count = count_of(aggregated, long, body)?;
     let head = SigHead {
-        part: part_of(flags / 64),
+        part: Part::from_indicator(flags / 64),
         reserved: flags / 4 % 16,
         long,
         aggregated,

@@ -1,7 +1,7 @@
 //! Writing payloads and messages.
 
 ghost use Rattle.std.specs.Prelude.{◌≡◌, ◌+◌, ◌-◌, ◌*◌, ◌<◌, ◌≤◌, ◌^◌, false, List, [], ◌∷◌, ◌++◌, length, OnOk, OnErr, slice_index};
-ghost use Rattle.mmt_sig.specs.Payload.{Fits, spelling, flags as flags_of, part_number as number_of, bit as bit_of};
+ghost use Rattle.mmt_sig.specs.Payload.{Fits, spelling, flags as flags_of};
 ghost use Rattle.mmt_sig.specs.Tables.{HasOwnLength, sent_table};
 ghost use Rattle.mmt_sig.specs.Message.{AreRight, MessageIsRight, message_spelling, PaMessage, HrbmMessage};
 
@@ -9,30 +9,16 @@ use crate::head::SigHead;
 use crate::reading_messages::{HRBM_ID, PA_ID};
 use mmt_base::OutOfMemory;
 use mmt_fields::{put_bytes, put_u8, put_u16, put_u32};
-use mmt_model::{Params, Part};
-
-fn bit(flag: bool) -> u8
-    ensures { result ≡ bit_of flag }
-{
-    if flag { 1 } else { 0 }
-}
-
-fn part_number(part: Part) -> u8
-    ensures { result ≡ number_of part }
-{
-    match part {
-        Part::Whole => 0,
-        Part::First => 1,
-        Part::Middle => 2,
-        Part::Last => 3,
-    }
-}
+use mmt_model::Params;
 
 fn flags(head: &SigHead) -> u8
     requires { head.now.reserved < 16 }
     ensures { result ≡ flags_of head.now }
 {
-    64 * part_number(head.part) + 4 * head.reserved + 2 * bit(head.long) + bit(head.aggregated)
+    64 * head.part.indicator()
+        + 4 * head.reserved
+        + 2 * u8::from(head.long)
+        + u8::from(head.aggregated)
 }
 
 /// Appends a signalling payload whose bytes are one message or a part of one (ISO/IEC 23008-1, the

@@ -10,5 +10,5 @@ pub returns-clause-items : goal.returns-clause-items
 unfolding mmtp_text
 returns-clause-items c =
     six c.args.out.now.items c.put_number.new.out.items c.put_number-2.new.out.items c.put_number-3.new.out.items c.put_number-4.new.out.items c.put_number-5.new.out.items c.put_number-6.new.out.items _ _ _ _ _ _
-    c.put_number.ensures.items (rw c.type_of.ensures at c.put_number-2.ensures.items) c.put_number-3.ensures.items c.put_number-4.ensures.items (rw c.bit.ensures.packet at c.put_number-5.ensures.items) c.put_number-6.ensures.items
+    c.put_number.ensures.items (rw c.type_of.ensures at c.put_number-2.ensures.items) c.put_number-3.ensures.items c.put_number-4.ensures.items (rw c.from.ensures at c.put_number-5.ensures.items) c.put_number-6.ensures.items
     ∙ simp append_assoc

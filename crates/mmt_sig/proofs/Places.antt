@@ -11,23 +11,15 @@ use Rattle.mmt_sig.specs.declared.head.SigWhy.{SigWhy}
 use Rattle.mmt_sig.specs.declared.head.SigWhy.TheVariants as why
 use Rattle.mmt_sig.specs.Payload.{length_width}
 use Rattle.mmt_sig.specs.PayloadReading.{message_at, messages_of, payload_of}
-use Rattle.mmt_recv.proofs.Within.{IsWithin, bind_within, bytes_within, check_within, number_within}
+use Rattle.mmt_sig.proofs.Within.{message_within}
+use Rattle.mmt_fields.proofs.Places.{IsWithin, bind_within, bytes_within, check_within, number_within}
 
 abbrev Step : Type 0
 Step = List ℕ × List ℕ
 
-message_shorter : (long : Bool) (at : ℕ) (bytes : List ℕ) (x : Step) → message_at long at bytes ≡ Ok x → length x.1 ≤ length bytes
+message_places : (last : ℕ) (long : Bool) (at : ℕ) (bytes : List ℕ) → at + length bytes ≤ last → IsWithin last (message_at long at bytes)
 unfolding message_at
-message_shorter long at bytes x e =
-    let a = bind_ok (number_at (length_width long) bytes at why.Short) _ x e in
-    let w = bind_ok (check (leb a.0.0 (length a.0.1)) at why.Overrun) _ x a.2 in
-    let m = bind_ok (bytes_at a.0.0 a.0.1 (at + byte_len (length_width long)) why.Short) _ x w.2 in
-    let is : length m.0.1 ≡ length x.1 = ap (λ (y : Step). length y.1) (ok_is _ x m.2) in
-    omega (arith, number_leaves (length_width long) bytes at why.Short a.0 a.1, bytes_leave a.0.0 a.0.1 (at + byte_len (length_width long)) why.Short m.0 m.1)
-
-message_within : (last : ℕ) (long : Bool) (at : ℕ) (bytes : List ℕ) → at + length bytes ≤ last → IsWithin last (message_at long at bytes)
-unfolding message_at
-message_within last long at bytes le =
+message_places last long at bytes le =
     bind_within last (number_at (length_width long) bytes at why.Short) _ (number_within last (length_width long) bytes at why.Short (omega arith)) (λ a ea.
     let la = number_leaves (length_width long) bytes at why.Short a ea in
     bind_within last (check (leb a.0 (length a.1)) at why.Overrun) _ (check_within last (leb a.0 (length a.1)) at why.Overrun (omega arith)) (λ w ew.
@@ -45,8 +37,8 @@ unfolding walk
 walk_within last zero long at bytes le = tt
 walk_within last (suc n) long at [] le = tt
 walk_within last (suc n) long at (b ∷ bytes) le =
-    go_on_within last (message_at long at (b ∷ bytes)) (λ x. walk n (message_at long) (at + (length (b ∷ bytes) - length x.1)) x.1) (message_within last long at (b ∷ bytes) le)
-    (λ x e. let short = message_shorter long at (b ∷ bytes) x e in walk_within last n long (at + (length (b ∷ bytes) - length x.1)) x.1 (omega arith))
+    go_on_within last (message_at long at (b ∷ bytes)) (λ x. walk n (message_at long) (at + (length (b ∷ bytes) - length x.1)) x.1) (message_places last long at (b ∷ bytes) le)
+    (λ x e. let short = (message_within long at (b ∷ bytes) x e).1 in walk_within last n long (at + (length (b ∷ bytes) - length x.1)) x.1 (omega arith))
 
 unless_within : {A : Type 0} (last : ℕ) (stop : Option (Refused SigWhy)) (x : A) → IfSome stop (λ e. e.at ≤ last) → IsWithin last (unless_stopped stop x)
 unless_within last None x here = tt

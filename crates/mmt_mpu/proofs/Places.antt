@@ -11,28 +11,8 @@ use Rattle.mmt_mpu.specs.declared.types.MpuWhy.{MpuWhy}
 use Rattle.mmt_mpu.specs.declared.types.MpuWhy.TheVariants as why
 use Rattle.mmt_mpu.specs.Spelling.{UnitHead, UnitValue, head_length, end_of}
 use Rattle.mmt_mpu.specs.Reading.{head_at, unit_at, lone_at, Walk, go_on, walk, all_units, unless_stopped, units_of, payload_of}
-use Rattle.mmt_recv.proofs.Within.{IsWithin, bind_within, bytes_within, check_within, number_within}
-
-abbrev HeadRest : Type 0
-HeadRest = UnitHead × List ℕ
-
-abbrev UnitRest : Type 0
-UnitRest = UnitValue × List ℕ
-
-head_leaves : (timed : Bool) (at : ℕ) (bytes : List ℕ) (x : HeadRest) → head_at timed at bytes ≡ Ok x → length x.1 + head_length timed ≡ length bytes
-unfolding head_at
-head_leaves true at bytes x e =
-    let a = bind_ok (number_at w32 bytes at why.Short) _ x e in
-    let b = bind_ok (number_at w32 a.0.1 (at + 4) why.Short) _ x a.2 in
-    let c = bind_ok (number_at w32 b.0.1 (at + 8) why.Short) _ x b.2 in
-    let p = bind_ok (number_at w8 c.0.1 (at + 12) why.Short) _ x c.2 in
-    let d = bind_ok (number_at w8 p.0.1 (at + 13) why.Short) _ x p.2 in
-    let is : length d.0.1 ≡ length x.1 = ap (λ (y : HeadRest). length y.1) (ok_is _ x d.2) in
-    omega (arith, number_leaves w32 bytes at why.Short a.0 a.1, number_leaves w32 a.0.1 (at + 4) why.Short b.0 b.1, number_leaves w32 b.0.1 (at + 8) why.Short c.0 c.1, number_leaves w8 c.0.1 (at + 12) why.Short p.0 p.1, number_leaves w8 p.0.1 (at + 13) why.Short d.0 d.1)
-head_leaves false at bytes x e =
-    let a = bind_ok (number_at w32 bytes at why.Short) _ x e in
-    let is : length a.0.1 ≡ length x.1 = ap (λ (y : HeadRest). length y.1) (ok_is _ x a.2) in
-    omega (arith, number_leaves w32 bytes at why.Short a.0 a.1)
+use Rattle.mmt_mpu.proofs.Walk.{HeadRest, UnitRest, head_leaves}
+use Rattle.mmt_fields.proofs.Places.{IsWithin, bind_within, bytes_within, check_within, number_within}
 
 head_within : (last : ℕ) (timed : Bool) (at : ℕ) (bytes : List ℕ) → at + length bytes ≤ last → IsWithin last (head_at timed at bytes)
 unfolding head_at

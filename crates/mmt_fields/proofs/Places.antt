@@ -1,4 +1,4 @@
--- The place of a refusal is at most that behind the last byte that was read.
+-- Where a refusal lies: at most directly behind the last byte that was read.
 use Rattle.std.proofs.Common.{ℕ, ◌≤◌, Bool, true, false, cond, ltb, List, length, take, drop, Result, Ok, Err, ◌≡◌, refl}
 use Rattle.std.specs.Prelude.{IfErr}
 use Rattle.std.specs.Int.{Width, byte_len, from_be_bytes}
