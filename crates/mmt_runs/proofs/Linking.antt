@@ -62,7 +62,7 @@ heard_at (p ∷ kept) id number = go ((p.packet_id == id) && (p.number == number
     go true ih = refl
     go false ih = ih
 
--- and the kept packet of a span has that packet id and number
+-- the kept packet of a span has its packet id and number
 pub found_at : (kept : List Kept) (id number : ℕ) (p : Kept) → kept_at kept id number ≡ Some p → (p.packet_id ≡ id) × (p.number ≡ number)
 unfolding is_at
 found_at [] id number p e = absurd cc

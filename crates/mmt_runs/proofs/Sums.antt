@@ -203,7 +203,7 @@ unfolding times
 times_one zero = refl
 times_one (suc k) = omega (arith, times_one k)
 
--- what parts count for has their bytes in it
+-- parts count for at least their bytes
 pub cost_bytes : (c : ℕ) (bs : List (List ℕ)) → length (joined bs) ≤ parts_cost c bs
 unfolding parts_cost
 cost_bytes c [] = omega arith
@@ -266,7 +266,7 @@ run_fits c link one within kept id most number rest a b e =
     let n : length rest ≤ held kept = rest_short c link one within kept id most (next_number number) rest (next_below number) b e in
     omega (arith, run_cost link (map heard kept) id c (λ h. h.length) (within_at c link within kept id) most (next_number number) rest e, distinct (λ h. h.length) (map heard kept) id (suc (length rest)) number a (omega (arith, n, b)), heard_sum kept)
 
--- and so have the parts of a rest of a run alone
+-- nor have the parts of a rest of a run alone
 pub rest_fits : (c : ℕ) (link : Payload → Link) → 1 ≤ c → IsWithin c link → (kept : List Kept) (id most number : ℕ) (rest : List (List ℕ)) → number < 2 ^ 32 → held kept < 2 ^ 32 → rest_of_run link (map heard kept) id most number ≡ Some rest → parts_cost c rest ≤ held kept
 unfolding next_number
 rest_fits c link one within kept id most number rest a b e =
