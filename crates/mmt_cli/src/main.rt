@@ -3,9 +3,13 @@
 
 mod help;
 mod list;
+#[cfg(test)]
+mod note_tests;
 mod peak;
 #[cfg(test)]
 mod peak_tests;
+#[cfg(test)]
+mod piece_tests;
 mod run;
 mod status;
 mod take;

@@ -29,9 +29,9 @@ const SECOND_AT_ONCE: [u8; 34] = [
     0x01, 0xF4,
 ];
 
-// The units of which records are written.
+/// The units of which records are written.
 #[derive(Clone, Copy)]
-enum Units {
+pub(crate) enum Units {
     Neither,
     First,
     Second,
@@ -48,8 +48,8 @@ fn add(out: &mut Vec<u8>, head: &[u8; 34], from: u32, length: u32) -> Result<(),
     Ok(())
 }
 
-// The records of these units.
-fn records(alloc: Global, units: Units) -> Result<Vec<u8>, AllocError> {
+/// The records of these units.
+pub(crate) fn records(alloc: Global, units: Units) -> Result<Vec<u8>, AllocError> {
     let mut out = Vec::new(alloc);
     match units {
         Units::Neither => {}
@@ -67,16 +67,21 @@ fn records(alloc: Global, units: Units) -> Result<Vec<u8>, AllocError> {
     Ok(out)
 }
 
-// What `take` is to answer, write and note.
+/// What `take` is to answer, write and note.
 #[derive(Clone, Copy)]
-struct Wanted {
-    status: Status,
-    units: Units,
-    notes: &'static str,
+pub(crate) struct Wanted<'a> {
+    pub(crate) status: Status,
+    pub(crate) units: Units,
+    pub(crate) notes: &'a str,
 }
 
-// Whether `take` with these words does so with the input.
-fn takes(alloc: Global, texts: &[&str], input: Vec<u8>, wanted: Wanted) -> Result<bool, Fail> {
+/// Whether `take` with these words does so with the input.
+pub(crate) fn takes(
+    alloc: Global,
+    texts: &[&str],
+    input: Vec<u8>,
+    wanted: Wanted<'_>,
+) -> Result<bool, Fail> {
     let words = words(alloc, texts)?;
     let mut port = MemoryPort::new(alloc, input, 100, 10_000, Vec::new(alloc))?;
     let mut shelf = MemoryShelf::new(alloc, Vec::new(alloc));
@@ -89,8 +94,8 @@ fn takes(alloc: Global, texts: &[&str], input: Vec<u8>, wanted: Wanted) -> Resul
     )
 }
 
-// These packets of the worked stream, one after the other.
-fn packets(alloc: Global, numbers: &[usize]) -> Result<Vec<u8>, Fail> {
+/// These packets of the worked stream, one after the other.
+pub(crate) fn packets(alloc: Global, numbers: &[usize]) -> Result<Vec<u8>, Fail> {
     let all = stream(alloc)?;
     let mut out = Vec::new(alloc);
     for number in numbers {

@@ -17,6 +17,7 @@ const THREE: [u8; 15] = [
     0x7F, 0x02, 0, 2, 0x60, 0x7F, 0x7F, 0x2A, 0, 1, 0x7F, 0x7F, 0xFE, 0, 0,
 ];
 
+/// The words of a command, one for each text.
 pub fn words(alloc: Global, texts: &[&str]) -> Result<Vec<String>, AllocError> {
     let mut words = Vec::new(alloc);
     for text in texts {
@@ -25,6 +26,7 @@ pub fn words(alloc: Global, texts: &[&str]) -> Result<Vec<String>, AllocError> {
     Ok(words)
 }
 
+/// A port in memory with this input, where these calls fail.
 pub fn port(alloc: Global, input: &[u8], failing: &[FailAt]) -> Result<MemoryPort, Fail> {
     let input = Vec::from_slice(alloc, input)?;
     let failing = Vec::from_slice(alloc, failing)?;

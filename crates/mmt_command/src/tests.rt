@@ -5,7 +5,7 @@ use mmt_model::{Flow, FlowChoice, Params};
 use std::alloc::{AllocError, Global};
 use std::test::Fail;
 
-// The words of a text with one blank between two.
+/// The words of a text with one blank between two.
 pub fn words(alloc: Global, text: &str) -> Result<Vec<String>, AllocError> {
     let mut words = Vec::new(alloc);
     for word in text.split(' ') {
