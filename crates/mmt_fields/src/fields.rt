@@ -7,7 +7,7 @@
 ghost use Rattle.std.specs.Prelude.{◌≡◌, ◌+◌, length, IfOk, IfErr};
 ghost use Rattle.std.specs.Int.{w8, w16, w32, w64, w128};
 ghost use Rattle.mmt_fields.specs.Reading.{Gives, number_at};
-ghost use Rattle.mmt_fields.specs.Reading.{bytes_at as front_bytes};
+ghost use Rattle.mmt_fields.specs.Reading.{bytes_at as front_bytes, check as check_of};
 
 use mmt_base::Refused;
 
@@ -91,5 +91,17 @@ pub fn bytes_at<W: Drop>(
     match bytes.split_at_checked(count) {
         Some((front, rest)) => Ok((front, rest)),
         None => Err(Refused { at, why: short }),
+    }
+}
+
+/// A test that has to hold, or the refusal `why` at a place.
+pub fn check<W: Drop>(holds: bool, at: u32, why: W) -> Result<(), Refused<W>>
+    ensures gives { Gives (λ _. tt) result (check_of holds at why) }
+    ensures place { IfErr result (λ e. e.at ≡ at) }
+{
+    if holds {
+        Ok(())
+    } else {
+        Err(Refused { at, why })
     }
 }

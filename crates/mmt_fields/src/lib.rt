@@ -5,5 +5,5 @@
 mod fields;
 mod writing;
 
-pub use fields::{bytes_at, u8_at, u16_at, u32_at, u64_at, u128_at};
+pub use fields::{bytes_at, check, u8_at, u16_at, u32_at, u64_at, u128_at};
 pub use writing::{patch_u16, put_bytes, put_u8, put_u16, put_u32, put_u64, put_u128};

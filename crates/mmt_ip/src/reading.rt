@@ -1,26 +1,14 @@
 //! Reading a packet, field by field.
 
 ghost use Rattle.std.specs.Prelude.{◌+◌, ◌≡◌, ◌<◌, ◌≤◌, ◌^◌, ◌||◌, ◌==◌, length, IfOk, IfErr, Ok};
-ghost use Rattle.mmt_fields.specs.Reading.{Gives, check as check_of};
+ghost use Rattle.mmt_fields.specs.Reading.{Gives};
 ghost use Rattle.mmt_ip.specs.Spelling.{Value, Fits, view, spelling, checksum};
 ghost use Rattle.mmt_ip.specs.Reading.{packet_of};
 
 use crate::packet::{Ip6Header, Ip6Udp, IpWhy};
 use crate::sum::checksum_of;
 use mmt_base::Refused;
-use mmt_fields::{u8_at, u16_at, u32_at, u128_at};
-
-/// A test that has to hold, or the refusal at its place.
-fn check(holds: bool, at: u32, why: IpWhy) -> Result<(), Refused<IpWhy>>
-    ensures gives { Gives (λ _. tt) result (check_of holds at why) }
-    ensures place { IfErr result (λ e. e.at ≡ at) }
-{
-    if holds {
-        Ok(())
-    } else {
-        Err(Refused { at, why })
-    }
-}
+use mmt_fields::{check, u8_at, u16_at, u32_at, u128_at};
 
 /// Whether a checksum is none, or the right one (RFC 768).
 fn is_right(sum: u16, header: &Ip6Header, payload: &[u8]) -> bool

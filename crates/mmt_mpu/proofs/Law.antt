@@ -13,7 +13,6 @@ use Rattle.mmt_fields.proofs.Numbers.{u8_field, u16_field, u32_field, bytes_fiel
 use Rattle.mmt_model.specs.declared.keys.UnitKey.{UnitKey}
 use Rattle.mmt_model.specs.declared.keys.UnitKey.TheVariants.{Timed, Item}
 use Rattle.mmt_model.specs.declared.keys.Part.{Part}
-use Rattle.mmt_model.specs.declared.keys.Part.TheVariants as parts
 use Rattle.mmt_model.specs.Parts.{part_number, part_of, IsWholeIf}
 use Rattle.mmt_model.proofs.Parts.{part_below, part_again, number_again}
 use Rattle.mmt_mpu.specs.declared.types.MpuHead.{MpuHead}

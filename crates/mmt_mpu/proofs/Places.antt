@@ -9,9 +9,9 @@ use Rattle.mmt_fields.proofs.Codec.{bind_ok, ok_is}
 use Rattle.mmt_fields.proofs.Numbers.{guard_ok, number_leaves, bytes_leave}
 use Rattle.mmt_mpu.specs.declared.types.MpuWhy.{MpuWhy}
 use Rattle.mmt_mpu.specs.declared.types.MpuWhy.TheVariants as why
-use Rattle.mmt_mpu.specs.Spelling.{UnitHead, UnitValue, head_length, end_of}
+use Rattle.mmt_mpu.specs.Spelling.{head_length, end_of}
 use Rattle.mmt_mpu.specs.Reading.{head_at, unit_at, lone_at, Walk, go_on, walk, all_units, unless_stopped, units_of, payload_of}
-use Rattle.mmt_mpu.proofs.Walk.{HeadRest, UnitRest, head_leaves}
+use Rattle.mmt_mpu.proofs.Walk.{UnitRest, head_leaves}
 use Rattle.mmt_fields.proofs.Places.{IsWithin, bind_within, bytes_within, check_within, number_within}
 
 head_within : (last : ℕ) (timed : Bool) (at : ℕ) (bytes : List ℕ) → at + length bytes ≤ last → IsWithin last (head_at timed at bytes)

@@ -11,7 +11,7 @@ use crate::head::{lone_at, unit_at};
 use crate::payload::MpuPayload;
 use crate::types::{MpuHead, MpuWhy};
 use mmt_base::Refused;
-use mmt_fields::{u8_at, u16_at, u32_at};
+use mmt_fields::{check, u8_at, u16_at, u32_at};
 use mmt_model::Part;
 
 /// How many units stand one after the other, each after its length.
@@ -59,26 +59,11 @@ fn mpu_payload(bytes: &[u8]) -> Result<MpuPayload<'_>, Refused<MpuWhy>>
     ensures place { IfErr result (λ e. e.at ≤ length bytes.now) }
 {
     let (len, rest) = u16_at(bytes, 0, MpuWhy::Short)?;
-    if rest.len() != len as usize {
-        return Err(Refused {
-            at: 0,
-            why: MpuWhy::Length,
-        });
-    }
+    check(rest.len() == len as usize, 0, MpuWhy::Length)?;
     let (flags, rest) = u8_at(rest, 2, MpuWhy::Short)?;
     let fragment_type = flags >> 4;
-    if fragment_type < 2 {
-        return Err(Refused {
-            at: 2,
-            why: MpuWhy::Metadata(fragment_type),
-        });
-    }
-    if fragment_type > 2 {
-        return Err(Refused {
-            at: 2,
-            why: MpuWhy::FragmentType(fragment_type),
-        });
-    }
+    check(fragment_type >= 2, 2, MpuWhy::Metadata(fragment_type))?;
+    check(fragment_type <= 2, 2, MpuWhy::FragmentType(fragment_type))?;
     let aggregated = flags & 1 == 1;
     let part = flags >> 1 & 0b11;
     if aggregated && part != 0 {

@@ -1,5 +1,5 @@
 -- The two bytes of flags, taken apart and put together.
-use Rattle.std.proofs.Common.{◌≡◌, ℕ, zero, suc, ◌+◌, ◌*◌, ◌/◌, ◌%◌, ◌^◌, ◌<◌, Bool, true, false, eqb, ltb, refl, arith, eq-eqb}
+use Rattle.std.proofs.Common.{◌≡◌, ℕ, zero, suc, ◌+◌, ◌*◌, ◌/◌, ◌%◌, ◌^◌, ◌<◌, Bool, true, eqb, ltb, refl, arith, eq-eqb}
 use Rattle.std.proofs.lemmas.Bool.{lt-ltb, ltb-true, eqb-true}
 use Rattle.std.specs.Int.{from_bool}
 use Rattle.mmt_fields.proofs.Flags.{bit_below, is_bit, bit_is}

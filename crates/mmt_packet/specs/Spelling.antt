@@ -1,5 +1,5 @@
 -- What an MMTP packet is, and the bytes that it is spelled by (ISO/IEC 23008-1, the MMTP packet header).
-use Rattle.std.specs.Prelude.{◌≡◌, ℕ, ◌+◌, ◌*◌, ◌/◌, ◌%◌, ◌^◌, ◌<◌, Bool, true, false, ◌&&◌, not, ◌==◌, nat_le, List, ◌++◌, length, slice_index, Option, Some, None, IfSome}
+use Rattle.std.specs.Prelude.{◌≡◌, ℕ, ◌+◌, ◌*◌, ◌/◌, ◌%◌, ◌^◌, ◌<◌, Bool, false, ◌&&◌, not, ◌==◌, nat_le, List, ◌++◌, length, slice_index, Option, Some, None, IfSome}
 use Rattle.std.specs.Option.{is_some}
 use Rattle.std.specs.Int.{w8, w16, w32, from_bool}
 use Rattle.mmt_fields.specs.Reading.{big_endian, optional}

@@ -8,7 +8,7 @@ ghost use Rattle.mmt_packet.specs.Reading.{packet_of, extension_at, extension_pl
 use crate::packet::{Extension, Kind, Packet, PacketWhy};
 use byteorder::{BigEndian, ByteOrder};
 use mmt_base::{Refused, Tick};
-use mmt_fields::{bytes_at, u8_at, u16_at, u32_at};
+use mmt_fields::{bytes_at, check, u8_at, u16_at, u32_at};
 
 /// The packet counter, where it is there.
 fn counter_at(stands: bool, bytes: &[u8]) -> Result<(Option<u32>, &[u8]), Refused<PacketWhy>>
@@ -56,12 +56,7 @@ fn one_extension(at: u32, bytes: &[u8]) -> Result<(Extension<'_>, &[u8]), Refuse
     let (len, rest) = u16_at(rest, at + 2, PacketWhy::Short)?;
     let (bytes, rest) = bytes_at(rest, len as usize, at + 4, PacketWhy::Short)?;
     let extension = Extension { kind, bytes };
-    if is_scrambled(&extension) {
-        return Err(Refused {
-            at: at + 4,
-            why: PacketWhy::Scrambled,
-        });
-    }
+    check(!is_scrambled(&extension), at + 4, PacketWhy::Scrambled)?;
     Ok((extension, rest))
 }
 
@@ -111,27 +106,12 @@ fn packet(bytes: &[u8]) -> Result<Packet<'_>, Refused<PacketWhy>>
 {
     let (first, rest) = u8_at(bytes, 0, PacketWhy::Short)?;
     let version = first >> 6;
-    if version != 0 {
-        return Err(Refused {
-            at: 0,
-            why: PacketWhy::Version(version),
-        });
-    }
+    check(version == 0, 0, PacketWhy::Version(version))?;
     let fec = first >> 3 & 0b11;
-    if fec != 0 {
-        return Err(Refused {
-            at: 0,
-            why: PacketWhy::Fec(fec),
-        });
-    }
+    check(fec == 0, 0, PacketWhy::Fec(fec))?;
     let (second, rest) = u8_at(rest, 1, PacketWhy::Short)?;
     let code = second & 0x3F;
-    if code >= 3 {
-        return Err(Refused {
-            at: 1,
-            why: PacketWhy::Kind(code),
-        });
-    }
+    check(code < 3, 1, PacketWhy::Kind(code))?;
     let (packet_id, rest) = u16_at(rest, 2, PacketWhy::Short)?;
     let (time, rest) = u32_at(rest, 4, PacketWhy::Short)?;
     let (number, rest) = u32_at(rest, 8, PacketWhy::Short)?;

@@ -4,7 +4,6 @@ use Rattle.std.specs.Int.{from_bool}
 use Rattle.std.proofs.lemmas.Bool.{eqb-true, or_left, or_right}
 use Rattle.mmt_fields.proofs.Flags.{bit_below, bit_is, is_bit}
 use Rattle.mmt_model.specs.declared.keys.Part.{Part}
-use Rattle.mmt_model.specs.declared.keys.Part.TheVariants as parts
 use Rattle.mmt_model.specs.Parts.{part_number, part_of, IsWholeIf}
 use Rattle.mmt_model.proofs.Parts.{number_again, part_again, part_below}
 use Rattle.mmt_sig.specs.declared.head.SigHead.{SigHead}

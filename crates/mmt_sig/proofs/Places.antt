@@ -1,12 +1,11 @@
 -- The place of a refused signalling payload lies within its bytes, or directly behind them.
-use Rattle.std.proofs.Common.{◌≡◌, ℕ, zero, suc, ◌+◌, ◌-◌, ◌/◌, ◌%◌, ◌≤◌, Bool, true, false, ◌||◌, eqb, leb, List, [], ◌∷◌, length, Option, Some, None, Result, Ok, Err, refl, ap, arith}
+use Rattle.std.proofs.Common.{◌≡◌, ℕ, zero, suc, ◌+◌, ◌-◌, ◌/◌, ◌%◌, ◌≤◌, Bool, true, false, ◌||◌, eqb, leb, List, [], ◌∷◌, length, Option, Some, None, Result, Ok, Err, refl, arith}
 use Rattle.std.specs.Prelude.{IfSome}
 use Rattle.std.specs.Int.{w8, byte_len}
 use Rattle.mmt_base.specs.declared.refused.Refused.{Refused}
 use Rattle.mmt_fields.specs.Reading.{number_at, bytes_at, check}
 use Rattle.mmt_fields.specs.Items.{Walk, go_on, walk, all_items, unless_stopped, items_of}
-use Rattle.mmt_fields.proofs.Codec.{bind_ok, ok_is}
-use Rattle.mmt_fields.proofs.Numbers.{number_leaves, bytes_leave}
+use Rattle.mmt_fields.proofs.Numbers.{number_leaves}
 use Rattle.mmt_sig.specs.declared.head.SigWhy.{SigWhy}
 use Rattle.mmt_sig.specs.declared.head.SigWhy.TheVariants as why
 use Rattle.mmt_sig.specs.Payload.{length_width}

@@ -1,9 +1,9 @@
 -- What a consumer's calls do, for consumers that gather lines.
-use Rattle.std.proofs.Common.{◌≡◌, ◌⊎◌, inl, inr, ℕ, List, [], ◌∷◌, ◌++◌, ap, sym, subst, ◌∙◌, append_assoc}
+use Rattle.std.proofs.Common.{◌≡◌, ◌⊎◌, inl, inr, ℕ, List, [], ◌∷◌, ◌++◌, ap, sym, subst, ◌∙◌}
 use Rattle.std.proofs.lemmas.List.{append-nil}
 use Rattle.mmt_io.specs.History.{Event}
 use Rattle.mmt_io.specs.History.Event.{Out}
-use Rattle.mmt_stream.specs.Output.{Output, nothing, followed, output_of, IsPrefix, IsStartOf}
+use Rattle.mmt_stream.specs.Output.{Output, nothing, followed, output_of, IsStartOf}
 use Rattle.mmt_stream.specs.Consuming.{Emits, EmitsStart}
 use Rattle.mmt_stream.proofs.Outputs.{followed_assoc, followed-nothing, start_trans, start_of_both}
 

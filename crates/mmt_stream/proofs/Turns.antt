@@ -1,29 +1,29 @@
 -- The steps of a run over a stream, for any consumer.
 use Rattle.std.proofs.Common.{◌⊎◌, true, false, Bool, ◌≡◌, inl, inr, ℕ, ◌+◌, ◌<◌, ◌≤◌, List, [], ◌∷◌, ◌++◌, length, take, drop, refl, ap, sym, subst, ◌∙◌, arith, append_assoc}
 use Rattle.std.proofs.lemmas.List.{append-nil, length-append, take-append-drop}
-use Rattle.std.specs.Prelude.{Ok, Err, All}
+use Rattle.std.specs.Prelude.{Ok, Err}
 use Rattle.mmt_io.specs.History.{Event, bytes_read}
 use Rattle.mmt_io.specs.History.Event.{In}
 use Rattle.mmt_io.specs.Port.{Receives, Stays}
 use Rattle.mmt_io.proofs.Passing.{at_no_read}
-use Rattle.mmt_tlv.specs.Framing.{Packet, Fits, spelling, joined, IsFront, IsOutOfSync, Framed}
+use Rattle.mmt_tlv.specs.Framing.{Packet, spelling, joined, IsFront, IsOutOfSync}
 use Rattle.mmt_tlv.specs.Cutting.{Cutting, Feeds, StandsFor, next_place, next_held}
 use Rattle.mmt_tlv.specs.Cutting as cutting
 use Rattle.mmt_tlv.specs.declared.Fed.TheVariants as fed
 use Rattle.mmt_tlv.specs.declared.CutEnd.TheVariants as cut_end
 use Rattle.mmt_tlv.proofs.Stands.{NextPacket, stands_taken, stands_sync, stands_framed, stands_at_start}
-use Rattle.mmt_tlv.proofs.Unique.{same_packet, rest_is_short, one_framing}
+use Rattle.mmt_tlv.proofs.Unique.{same_packet, rest_is_short}
 use Rattle.mmt_stream.specs.Output.{Output, nothing, followed, output_of, IsStartOf, NoRead}
-use Rattle.mmt_stream.specs.Consuming.{Meaning, Grows, Emits, EmitsStart, Pushes, Settles}
+use Rattle.mmt_stream.specs.Consuming.{Meaning, Grows, Emits, EmitsStart, Settles}
 use Rattle.mmt_stream.specs.Streaming.{HasShown, HasFinished, HasBegun, HasEnded, Streams, Passed}
-use Rattle.mmt_stream.specs.Driving.{Turn, Stopped, EndsWith, halted, IsNew}
+use Rattle.mmt_stream.specs.Driving.{Turn, Stopped, EndsWith, halted}
 use Rattle.mmt_stream.specs.declared.end.StreamEnd.{StreamEnd}
 use Rattle.mmt_stream.specs.declared.end.StreamEnd.TheVariants as end
 use Rattle.mmt_stream.specs.declared.end.BrokenKind.TheVariants as kind
 use Rattle.mmt_stream.specs.declared.end.Halt.{Halt}
 use Rattle.mmt_stream.specs.declared.end.Halt.TheVariants as halt
 use Rattle.mmt_stream.proofs.Framings.{IsFramed, framed, framed_behind}
-use Rattle.mmt_stream.proofs.Outputs.{followed_assoc, followed-nothing, output_of-append, output_of-read, start_trans, start_of_both}
+use Rattle.mmt_stream.proofs.Outputs.{followed-nothing, output_of-append, output_of-read, start_trans, start_of_both}
 use Rattle.mmt_stream.proofs.Histories.{read_same, read_more, ended_more, going_more, going_read, once_going, passed_more, passed_read}
 
 next_size : (place : ℕ) (held : List ℕ) (whole lost : Bool) → let c : Cutting = record { place = place; held = held; whole = whole; lost = lost } in next_place c + length (next_held c) ≡ place + length held

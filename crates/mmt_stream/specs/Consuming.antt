@@ -1,5 +1,5 @@
 -- What the calls of a consumer of packets do.
-use Rattle.std.specs.Prelude.{◌≡◌, ℕ, List, [], ◌∷◌, ◌++◌, Result, Ok, Err, ⊤}
+use Rattle.std.specs.Prelude.{◌≡◌, List, [], ◌∷◌, ◌++◌, Result, Ok, Err, ⊤}
 use Rattle.mmt_io.specs.History.{Event}
 use Rattle.mmt_tlv.specs.Framing.{Packet}
 use Rattle.mmt_stream.specs.Output.{Output, nothing, followed, output_of, IsStartOf, NoRead}

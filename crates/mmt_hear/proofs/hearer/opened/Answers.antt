@@ -1,4 +1,4 @@
-use Rattle.std.proofs.Common.{[], ap, arith, length, sym, ◌∙◌, ◌≡◌, ◌+◌, ℕ}
+use Rattle.std.proofs.Common.{[], ap, arith, length, sym, ◌∙◌}
 use Rattle.std.proofs.Common.{append-nil}
 use Rattle.mmt_tlv.specs.Framing.{spelling}
 use Rattle.mmt_hear.proofs.hearer.opened.Goals as goal

@@ -1,4 +1,4 @@
-use Rattle.std.proofs.Common.{◌≡◌, ℕ, ◌+◌, length, ap, arith}
+use Rattle.std.proofs.Common.{length, ap, arith}
 use Rattle.mmt_packet.specs.Spelling.{view}
 use Rattle.mmt_packet.proofs.Lengths.{length_spelling}
 use Rattle.mmt_hear.proofs.hearer.payload.Goals as goal

@@ -2,7 +2,7 @@ use Rattle.std.proofs.Common.{rules, sym, ◌∙◌, subst, arith}
 use Rattle.std.specs.Prelude.{IsTrue, Ok, Err}
 use Rattle.std.proofs.lemmas.List.{take_rest, length-drop}
 use Rattle.mmt_tlv.proofs.Stands.{stands_packet}
-use Rattle.mmt_stream.specs.Consuming.{Meaning, Grows, Pushes}
+use Rattle.mmt_stream.specs.Consuming.{Meaning, Pushes}
 use Rattle.mmt_stream.proofs.Framings.{framed, bytes-drop}
 use Rattle.mmt_stream.proofs.Turns.{turn_taken, turn_lost, turn_pushed, turn_halted}
 use Rattle.mmt_stream.proofs.drive.serve.Goals as goal
