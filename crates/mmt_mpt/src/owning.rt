@@ -1,7 +1,6 @@
 //! Copying an MPT that was read into lists of its own.
 
 ghost use Rattle.std.specs.Prelude.{◌≡◌, List as Items, map, IfOk};
-ghost use Rattle.mmt_mpt.specs.Location.{InIp4, InIp6, InStream, InIp6Stream};
 ghost use Rattle.mmt_mpt.specs.LocationView.{view_location};
 ghost use Rattle.mmt_mpt.specs.LocationsLeft.{locations_left};
 ghost use Rattle.mmt_mpt.specs.DescriptorsLeft.{descriptors_left};
@@ -28,61 +27,6 @@ fn own_bytes(alloc: Global, bytes: &[u8]) -> Result<List<u8>, OutOfMemory>
     Ok(List::from_vec(copy))
 }
 
-// An owned location of type 1.
-fn in_ip4(source: u32, destination: u32, port: u16, packet_id: u16) -> OwnedLocation
-    ensures { owned_location result ≡ InIp4 (record { source = source; destination = destination; port = port; packet_id = packet_id }) }
-{
-    OwnedLocation::Ip4 {
-        source,
-        destination,
-        port,
-        packet_id,
-    }
-}
-
-// An owned location of type 2.
-fn in_ip6(source: u128, destination: u128, port: u16, packet_id: u16) -> OwnedLocation
-    ensures { owned_location result ≡ InIp6 (record { source = source; destination = destination; port = port; packet_id = packet_id }) }
-{
-    OwnedLocation::Ip6 {
-        source,
-        destination,
-        port,
-        packet_id,
-    }
-}
-
-// An owned location of type 3.
-fn in_stream(network: u16, stream: u16, reserved: u8, pid: u16) -> OwnedLocation
-    ensures { owned_location result ≡ InStream (record { network = network; stream = stream; reserved = reserved; pid = pid }) }
-{
-    OwnedLocation::Stream {
-        network,
-        stream,
-        reserved,
-        pid,
-    }
-}
-
-// An owned location of type 4.
-fn in_ip6_stream(
-    source: u128,
-    destination: u128,
-    port: u16,
-    reserved: u8,
-    pid: u16,
-) -> OwnedLocation
-    ensures { owned_location result ≡ InIp6Stream (record { source = source; destination = destination; port = port; reserved = reserved; pid = pid }) }
-{
-    OwnedLocation::Ip6Stream {
-        source,
-        destination,
-        port,
-        reserved,
-        pid,
-    }
-}
-
 fn own_location(alloc: Global, location: &Location<'_>) -> Result<OwnedLocation, OutOfMemory>
     ensures { IfOk result (λ l. owned_location l ≡ view_location location.now) }
 {
@@ -93,26 +37,47 @@ fn own_location(alloc: Global, location: &Location<'_>) -> Result<OwnedLocation,
             destination,
             port,
             packet_id,
-        } => Ok(in_ip4(source, destination, port, packet_id)),
+        } => Ok(OwnedLocation::Ip4 {
+            source,
+            destination,
+            port,
+            packet_id,
+        }),
         Location::Ip6 {
             source,
             destination,
             port,
             packet_id,
-        } => Ok(in_ip6(source, destination, port, packet_id)),
+        } => Ok(OwnedLocation::Ip6 {
+            source,
+            destination,
+            port,
+            packet_id,
+        }),
         Location::Stream {
             network,
             stream,
             reserved,
             pid,
-        } => Ok(in_stream(network, stream, reserved, pid)),
+        } => Ok(OwnedLocation::Stream {
+            network,
+            stream,
+            reserved,
+            pid,
+        }),
         Location::Ip6Stream {
             source,
             destination,
             port,
             reserved,
             pid,
-        } => Ok(in_ip6_stream(source, destination, port, reserved, pid)),
+        } => Ok(OwnedLocation::Ip6Stream {
+            source,
+            destination,
+            port,
+            reserved,
+            pid,
+        }),
         Location::Url { text } => {
             let text = own_bytes(alloc, text)?;
             Ok(OwnedLocation::Url { text })

@@ -2,68 +2,13 @@
 
 ghost use Rattle.std.specs.Prelude.{◌≡◌, ◌+◌, ◌^◌, ◌<◌, ◌≤◌, ◌++◌, length, map, vec_len, vec_capacity};
 ghost use Rattle.std.specs.List.{flat_map, All};
-ghost use Rattle.mmt_mpt.specs.Location.{InIp4, InIp6, InStream, InIp6Stream, LocationFits, location_bytes};
+ghost use Rattle.mmt_mpt.specs.Location.{LocationFits, location_bytes};
 ghost use Rattle.mmt_mpt.specs.LocationView.{view_location};
 ghost use Rattle.mmt_mpt.specs.Owned.{owned_location};
 
 use crate::location::Location;
 use crate::owned::OwnedLocation;
 use crate::writing_locations::{location_size, put_location};
-
-// A location of type 1.
-fn in_ip4(source: u32, destination: u32, port: u16, packet_id: u16) -> Location<'static>
-    ensures { view_location result ≡ InIp4 (record { source = source; destination = destination; port = port; packet_id = packet_id }) }
-{
-    Location::Ip4 {
-        source,
-        destination,
-        port,
-        packet_id,
-    }
-}
-
-// A location of type 2.
-fn in_ip6(source: u128, destination: u128, port: u16, packet_id: u16) -> Location<'static>
-    ensures { view_location result ≡ InIp6 (record { source = source; destination = destination; port = port; packet_id = packet_id }) }
-{
-    Location::Ip6 {
-        source,
-        destination,
-        port,
-        packet_id,
-    }
-}
-
-// A location of type 3.
-fn in_stream(network: u16, stream: u16, reserved: u8, pid: u16) -> Location<'static>
-    ensures { view_location result ≡ InStream (record { network = network; stream = stream; reserved = reserved; pid = pid }) }
-{
-    Location::Stream {
-        network,
-        stream,
-        reserved,
-        pid,
-    }
-}
-
-// A location of type 4.
-fn in_ip6_stream(
-    source: u128,
-    destination: u128,
-    port: u16,
-    reserved: u8,
-    pid: u16,
-) -> Location<'static>
-    ensures { view_location result ≡ InIp6Stream (record { source = source; destination = destination; port = port; reserved = reserved; pid = pid }) }
-{
-    Location::Ip6Stream {
-        source,
-        destination,
-        port,
-        reserved,
-        pid,
-    }
-}
 
 /// An owned location as a location over its text.
 fn lent(location: &OwnedLocation) -> Location<'_>
@@ -78,26 +23,47 @@ fn lent(location: &OwnedLocation) -> Location<'_>
             destination,
             port,
             packet_id,
-        } => in_ip4(*source, *destination, *port, *packet_id),
+        } => Location::Ip4 {
+            source: *source,
+            destination: *destination,
+            port: *port,
+            packet_id: *packet_id,
+        },
         OwnedLocation::Ip6 {
             source,
             destination,
             port,
             packet_id,
-        } => in_ip6(*source, *destination, *port, *packet_id),
+        } => Location::Ip6 {
+            source: *source,
+            destination: *destination,
+            port: *port,
+            packet_id: *packet_id,
+        },
         OwnedLocation::Stream {
             network,
             stream,
             reserved,
             pid,
-        } => in_stream(*network, *stream, *reserved, *pid),
+        } => Location::Stream {
+            network: *network,
+            stream: *stream,
+            reserved: *reserved,
+            pid: *pid,
+        },
         OwnedLocation::Ip6Stream {
             source,
             destination,
             port,
             reserved,
             pid,
-        } => in_ip6_stream(*source, *destination, *port, *reserved, *pid),
+        } => Location::Ip6Stream {
+            source: *source,
+            destination: *destination,
+            port: *port,
+            reserved: *reserved,
+            pid: *pid,
+        },
         OwnedLocation::Url { text } => Location::Url {
             text: text.as_slice(),
         },
