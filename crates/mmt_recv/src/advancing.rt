@@ -19,7 +19,8 @@ use mmt_pool::Pool;
 use mmt_runs::Runs;
 use mmt_times::Names;
 
-// Hands out what is due where the clock goes from one tick to another; nothing is where it stays.
+// Hands out what is due where the clock goes from one tick to another: nothing, and no kept packet is looked at, where no
+// time that a table gave is due then.
 fn hand_out_due<P: Port>(
     port: &mut P,
     pool: &Pool,
@@ -37,10 +38,11 @@ fn hand_out_due<P: Port>(
     ensures put { IsTrue (P.tells port.old) → Put (P.history port.old) (P.history port.new) (only_written (records (due_units names.now.sample_base names.now.entries (units_of (map heard pool.now.kept)) from.0 to.0))) result }
     ensures counts { IfOk result (λ handed. handed ≡ amount_of (due_units names.now.sample_base names.now.entries (units_of (map heard pool.now.kept)) from.0 to.0)) }
 {
-    if to.ahead_of(from) == 0 {
-        return Ok(Handed::nothing());
+    if names.is_any_due(from, to) {
+        hand_out(port, pool, names, runs, from, to)
+    } else {
+        Ok(Handed::nothing())
     }
-    hand_out(port, pool, names, runs, from, to)
 }
 
 /// Takes the clock from one tick to another: hands out the units that are due, in their order, then

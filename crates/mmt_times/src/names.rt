@@ -4,7 +4,8 @@ ghost use Rattle.std.specs.Prelude.{◌≡◌, ℕ, ◌+◌, ◌<◌, ◌≤◌,
 ghost use Rattle.mmt_base.specs.Ticks.{low, is_after, is_passed};
 ghost use Rattle.mmt_model.specs.Entries.{last_due, forget as remaining};
 ghost use Rattle.mmt_times.specs.SlotView.{slot_entry};
-ghost use Rattle.mmt_times.specs.Known.{entry_of};
+ghost use Rattle.std.specs.List.{list_any};
+ghost use Rattle.mmt_times.specs.Known.{entry_of, has_due as due_within};
 ghost use Rattle.mmt_times.specs.EntryView.{view_entry};
 ghost use Rattle.mmt_times.specs.Learning.{verdict};
 ghost use Rattle.mmt_times.specs.LearnedView.{view_learned};
@@ -59,6 +60,18 @@ fn find(slots: &[Slot], packet_id: u16, mpu: u32) -> Option<&Slot>
         }
     }
     None
+}
+
+// Whether the clock passes the due tick of a time of one of these slots on its way from one tick to another.
+fn is_any_due(slots: &[Slot], from: Tick, to: Tick) -> bool
+    ensures { result ≡ list_any (due_within from.0 to.0) (map slot_entry slots.now) }
+{
+    for slot in slots {
+        if slot.has_due(from, to) {
+            return true;
+        }
+    }
+    false
 }
 
 // Whether an entry's last due tick is not after the clock.
@@ -161,6 +174,14 @@ impl Names {
     {
         let slot = find(&self.slots, packet_id, mpu)?;
         Some(slot.time_of(self.sample_base, key))
+    }
+
+    /// Whether the clock passes the due tick of any time of an entry, the MPU's or an access unit's, on
+    /// its way from one tick to another. Where it does not, no unit is due, whatever is kept.
+    pub fn is_any_due(&self, from: Tick, to: Tick) -> bool
+        ensures { result ≡ list_any (due_within from.0 to.0) self.now.entries }
+    {
+        is_any_due(&self.slots, from, to)
     }
 
     /// How many entries there are, at most 1,024.

@@ -2,9 +2,9 @@
 #![tactic(auto, unfolding(mmt_model::specs::Entries::last_due, mmt_model::specs::Handing::time_for))]
 
 ghost use Rattle.std.specs.Prelude.{◌≡◌, ◌≤◌, length, map, take, nat_eq, max};
-ghost use Rattle.std.specs.List.{fold};
+ghost use Rattle.std.specs.List.{fold, list_any};
 ghost use Rattle.std.specs.Cmp.Lexicographic.{pointwise};
-ghost use Rattle.mmt_base.specs.Ticks.{low, due_of as due_by};
+ghost use Rattle.mmt_base.specs.Ticks.{low, due_of as due_by, is_passed as is_passed_by};
 ghost use Rattle.mmt_times.specs.TimesLeft.{view_time, times_left};
 
 use crate::entry::Entry;
@@ -59,8 +59,21 @@ fn copied(times: Times<'_>) -> [Ntp; 255]
     aus
 }
 
+// Whether the clock passes the due tick of one of these times on its way from one tick to another.
+fn is_any_passed(times: &[Ntp], from: Tick, to: Tick) -> bool
+    ensures { result ≡ list_any (λ t. is_passed_by (low (due_by t)) from.0 to.0) (map view_time times.now) }
+{
+    for time in times {
+        if due_of(*time).is_passed(from, to) {
+            return true;
+        }
+    }
+    false
+}
+
 impl Slot {
     ghost use Rattle.std.specs.Prelude.{◌≡◌};
+    ghost use Rattle.mmt_times.specs.Known.{has_due as due_within};
     ghost use Rattle.mmt_times.specs.SlotView.{slot_entry};
     ghost use Rattle.mmt_times.specs.EntryView.{view_entry};
     ghost use Rattle.mmt_times.specs.Learning.{has_same_times};
@@ -94,6 +107,13 @@ impl Slot {
         ensures { result ≡ passed (low (last_due_by (slot_entry self.now))) from.0 to.0 }
     {
         self.last_due.is_passed(from, to)
+    }
+
+    // Whether the clock passes the due tick of one of its times on its way from one tick to another.
+    pub(crate) fn has_due(&self, from: Tick, to: Tick) -> bool
+        ensures { result ≡ due_within from.0 to.0 (slot_entry self.now) }
+    {
+        due_of(self.time).is_passed(from, to) || is_any_passed(&self.aus[..self.count], from, to)
     }
 
     // The time of the unit of this key, where the first access unit is of sample `base`.

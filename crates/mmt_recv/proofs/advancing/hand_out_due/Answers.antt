@@ -7,13 +7,13 @@ use Rattle.mmt_runs.specs.Reading.{heard}
 use Rattle.mmt_recv.proofs.Still.{none_due}
 use Rattle.mmt_recv.proofs.advancing.hand_out_due.Goals as goal
 
-pub returns-then-ahead_of-eq0-clause-put : goal.returns-then-ahead_of-eq0-clause-put
-returns-then-ahead_of-eq0-clause-put g c = λ told.
+pub returns-else-is_any_due-clause-put : goal.returns-else-is_any_due-clause-put
+returns-else-is_any_due-clause-put g c = λ told.
     subst (λ ds. Puts (g.P.Port.history c.args.port.now) (g.P.Port.history c.args.port.now) (only_written (records ds)))
-    (sym (none_due c.args.names.now.sample_base c.args.names.now.entries (units_of (map heard c.args.pool.now.kept)) c.args.from.0 c.args.to.0 (sym c.ahead_of.ensures ∙ c.if-ahead_of-eq0.true)))
+    (sym (none_due c.args.from.0 c.args.to.0 c.args.names.now.sample_base c.args.names.now.entries (units_of (map heard c.args.pool.now.kept)) (sym c.is_any_due.ensures ∙ c.if-is_any_due.false)))
     (puts_nothing (g.P.Port.history c.args.port.now))
 
-pub returns-then-ahead_of-eq0-clause-counts : goal.returns-then-ahead_of-eq0-clause-counts
-returns-then-ahead_of-eq0-clause-counts g c =
+pub returns-else-is_any_due-clause-counts : goal.returns-else-is_any_due-clause-counts
+returns-else-is_any_due-clause-counts g c =
     c.nothing.ensures
-    ∙ ap amount_of (sym (none_due c.args.names.now.sample_base c.args.names.now.entries (units_of (map heard c.args.pool.now.kept)) c.args.from.0 c.args.to.0 (sym c.ahead_of.ensures ∙ c.if-ahead_of-eq0.true)))
+    ∙ ap amount_of (sym (none_due c.args.from.0 c.args.to.0 c.args.names.now.sample_base c.args.names.now.entries (units_of (map heard c.args.pool.now.kept)) (sym c.is_any_due.ensures ∙ c.if-is_any_due.false)))
