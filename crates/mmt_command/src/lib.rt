@@ -13,5 +13,6 @@ mod take_words;
 mod tests;
 mod words;
 
+pub use flows::flow_of;
 pub use take_words::TakeOptions;
 pub use words::{Command, command_of};

@@ -26,7 +26,7 @@ pub data Stands (s t : Span) : Type 0 where
   Before : order s t ≡ Less → (nat_lt t.packet_id s.packet_id || ((t.packet_id == s.packet_id) && nat_lt t.number s.number)) ≡ false → ((t.packet_id == s.packet_id) && (t.number == s.number)) ≡ false → Stands s t
   After : order s t ≡ Greater → (nat_lt t.packet_id s.packet_id || ((t.packet_id == s.packet_id) && nat_lt t.number s.number)) ≡ true → ((t.packet_id == s.packet_id) && (t.number == s.number)) ≡ false → Stands s t
 
-same_span : (s t : Span) → s.packet_id ≡ t.packet_id → s.number ≡ t.number → s ≡ t
+pub same_span : (s t : Span) → s.packet_id ≡ t.packet_id → s.number ≡ t.number → s ≡ t
 same_span s t e f = let span = λ (a b : ℕ). (let x : Span = record { packet_id = a; number = b } in x) in ap₂ span e f
 
 pub stands : (s t : Span) → Stands s t
@@ -47,6 +47,9 @@ stands s t =
     (λ (ge : t.packet_id ≤ s.packet_id). After (grind (arith, nat_tests)) (grind (arith, nat_tests)) (grind (arith, nat_tests)))
     (cases_lt s.packet_id t.packet_id))
     (cases_eq s.packet_id t.packet_id)
+
+pub same_order : (s : Span) → is_eq (order s s) ≡ true
+same_order s = grind (arith, nat_tests)
 
 pub packet_at-entries : (s : Span) (es : List (Span × Stored)) → packet_at (map entry_of es) s.packet_id s.number ≡ option_map (λ v. entry_of (s, v)) (lookup (λ k. is_eq (order s k)) es)
 unfolding is_at
@@ -107,7 +110,7 @@ absent-entries s es n = none_of (lookup (λ k. is_eq (order s k)) es) (sym (any-
 
 -- the pool with one more entry is the pool with one more packet
 pub holding-insert : (s : Span) (v : Stored) (es new_es : List (Span × Stored)) (bound peak total new_peak : ℕ) → lookup (λ k. is_eq (order s k)) es ≡ None → new_es ≡ insert_entry order es s v
-    → total ≡ held (map entry_of es) → new_peak ≡ max peak (total + length v.payload.items) → holding_of new_es bound new_peak ≡ with_packet (holding_of es bound peak) (entry_of (s, v))
+    → total ≡ held (map entry_of es) → new_peak ≡ max peak (total + length v.payload) → holding_of new_es bound new_peak ≡ with_packet (holding_of es bound peak) (entry_of (s, v))
 holding-insert s v es new_es bound peak total new_peak n i t m = rw (i, insert-entries s v es n, m, t) refl
 
 -- the packet was in the map, under its span

@@ -1,4 +1,6 @@
 pub mod Holding
 pub mod Stored
+pub mod Queue
+pub mod Tied
 pub mod Outcome
 pub mod Doing

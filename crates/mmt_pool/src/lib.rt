@@ -2,6 +2,7 @@
 #![tactic(auto)]
 
 mod pool;
+mod queue;
 #[cfg(test)]
 mod tests;
 mod types;

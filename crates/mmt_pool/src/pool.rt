@@ -1,58 +1,61 @@
 //! The pool.
 
-ghost use Rattle.std.specs.Prelude.{◌≡◌, ℕ, ◌+◌, ◌<◌, ◌≤◌, ◌^◌, max, [], List, length, map, filter, true, false, IfOk, OnOk, OnErr, IfSome, IfNone, option_map, Some};
+ghost use Rattle.std.specs.Prelude.{◌≡◌, ℕ, ◌+◌, ◌<◌, ◌≤◌, ◌^◌, max, [], List, length, map, filter, take, drop, true, false, IfOk, OnOk, OnErr, IfSome, IfNone, option_map, Some};
 ghost use Rattle.std.specs.List.{AllByRecursion, list_any};
 
+use crate::queue::{Queued, first_out};
 use crate::types::{NotStored, Span};
+use bytes::Bytes;
 use mmt_base::{OutOfMemory, Tick};
 use mmt_packet::{Kind, Packet};
 use std::alloc::Global;
-use std::collections::BTreeMap;
+use std::collections::{BTreeMap, BTreeSet};
 use std::marker::Model;
 
+#[cfg(test)]
+mod inside;
+
+// A kept packet: `payload` is the part of its one buffer, which holds the whole TLV packet.
 #[derive(Drop)]
 struct Stored {
     time: Tick,
     kind: Kind,
-    payload: Vec<u8>,
+    payload: Bytes,
 }
 
-/// The kept packets of a receiver, each with a copy of its payload.
+/// The kept packets of a receiver, each in a buffer of its own.
 #[derive(Drop)]
 pub struct Pool {
     alloc: Global,
     packets: BTreeMap<Span, Stored>,
+    queue: BTreeSet<Queued>,
     total: u32,
     bound: u32,
     peak: u32,
 }
 
 impl Model for Pool {
-    ghost use Rattle.std.specs.Prelude.{◌≡◌, map};
-    ghost use Rattle.mmt_pool.specs.Holding.{Holding, IsSound, held};
-    ghost use Rattle.mmt_pool.specs.Stored.{entry_of, holding_of};
+    ghost use Rattle.mmt_pool.specs.Holding.{Holding};
+    ghost use Rattle.mmt_pool.specs.Stored.{holding_of};
+    ghost use Rattle.mmt_pool.specs.Tied.{IsKept};
 
     ghost Value = { Holding };
 
     ghost view = { λ a. holding_of a.packets.entries a.bound a.peak };
 
-    ghost invariant = { λ a. IsSound (holding_of a.packets.entries a.bound a.peak) × (a.total ≡ held (map entry_of a.packets.entries)) };
+    ghost invariant = { λ a. IsKept a.packets.entries a.queue a.total a.bound a.peak };
 }
 
-// Some packet that is no longer in the window.
-fn expired(packets: &BTreeMap<Span, Stored>, clock: Tick, window: u32) -> Option<Span>
-    ensures { FindsExpired clock.0 window (map entry_of packets.now.entries) result }
+// The part of a TLV packet from `from` on, in a buffer that the whole packet is copied into once.
+fn cut(alloc: Global, tlv: &[u8], from: usize, count: usize) -> Result<Bytes, OutOfMemory>
+    requires { from + count ≤ length tlv.now }
+    ensures { IfOk result (λ bytes. bytes ≡ take count (drop from tlv.now)) }
 {
-    for (span, stored) in packets {
-        if !stored.time.plus(window).is_after(clock) {
-            return Some(*span);
-        }
-    }
-    None
+    let mut payload = Bytes::copy_from_slice(alloc, tlv)?;
+    payload.advance(from);
+    payload.truncate(count);
+    Ok(payload)
 }
-
-ghost use Rattle.mmt_pool.specs.Doing.{FindsExpired};
-ghost use Rattle.mmt_pool.specs.Stored.{entry_of};
 
 impl Pool {
     ghost use Rattle.mmt_pool.specs.Holding.{Kept, Holding, IsSound, IsKeepable, HasRoom, held, payload_at, kind_at, packet_at, is_at, is_kept_kind, is_in_window, IsInOrder, HasPart, part_at, LiesAt};
@@ -70,6 +73,7 @@ impl Pool {
         Ok(Pool {
             alloc,
             packets: BTreeMap::new(alloc),
+            queue: BTreeSet::new(alloc),
             total: 0,
             bound,
             peak: 0,
@@ -119,23 +123,27 @@ impl Pool {
         None
     }
 
-    // Keeps a copy of the payload of a new packet that there is room for.
-    fn put(&mut self, span: Span, time: Tick, kind: Kind, payload: &[u8]) -> Result<(), OutOfMemory>
-        requires room { HasRoom self.old (kept_as span time.0 kind payload.now) }
+    // Keeps a new packet that there is room for. Where it cannot, it takes out again what it had put in.
+    fn put(&mut self, span: Span, time: Tick, kind: Kind, payload: Bytes) -> Result<(), OutOfMemory>
+        requires room { HasRoom self.old (kept_as span time.0 kind payload) }
         requires kind { is_kept_kind kind ≡ true }
-        requires short { length payload.now < 2 ^ 31 }
-        ensures keepable { IsKeepable (kept_as span time.0 kind payload.now) }
-        ensures ok { OnOk result (self.new ≡ with_packet self.old (kept_as span time.0 kind payload.now)) }
+        requires short { length payload < 2 ^ 31 }
+        ensures keepable { IsKeepable (kept_as span time.0 kind payload) }
+        ensures ok { OnOk result (self.new ≡ with_packet self.old (kept_as span time.0 kind payload)) }
         ensures err { OnErr result (self.new ≡ self.old) }
     {
         let length = payload.len() as u32;
-        let payload = Vec::from_slice(self.alloc, payload)?;
+        let queued = Queued { time: time.0, span };
+        self.queue.insert(queued)?;
         let stored = Stored {
             time,
             kind,
             payload,
         };
-        self.packets.insert(span, stored)?;
+        if let Err(_) = self.packets.insert(span, stored) {
+            let _ = self.queue.remove(&queued);
+            return Err(OutOfMemory);
+        }
         self.total += length;
         self.peak = self.peak.max(self.total);
         Ok(())
@@ -172,8 +180,10 @@ impl Pool {
             packet_id: packet.packet_id,
             number: packet.number,
         };
-        let from = from as usize;
-        let payload = &tlv[from..from + packet.payload.len()];
+        let payload = match cut(self.alloc, tlv, from as usize, packet.payload.len()) {
+            Ok(payload) => payload,
+            Err(_) => return Err(NotStored::OutOfMemory),
+        };
         match self.put(span, packet.time, packet.kind, payload) {
             Ok(()) => Ok(span),
             Err(_) => Err(NotStored::OutOfMemory),
@@ -191,12 +201,13 @@ impl Pool {
         ensures fewer { IfSome result (λ _. length self.new.kept < length self.old.kept) }
         ensures done { IfNone result (self.new.kept ≡ filter (is_in_window clock.0 window) self.old.kept) }
     {
-        let span = expired(&self.packets, clock, window)?;
-        let Some(stored) = self.packets.remove(&span) else {
+        let queued = first_out(&self.queue, clock, window)?;
+        let Some(stored) = self.packets.remove(&queued.span) else {
             unreachable!()
         };
+        let _ = self.queue.remove(&queued);
         self.total -= stored.payload.len() as u32;
-        Some(span)
+        Some(queued.span)
     }
 
     /// The kind of a kept packet, `Mpu` or `Signalling`; `None` where the span is not kept.
@@ -215,6 +226,16 @@ impl Pool {
     {
         let stored = self.packets.get(&span)?;
         Some(&stored.payload)
+    }
+
+    /// The kind and the payload of a kept packet, lent; `None` where the span is not kept.
+    pub fn packet(&self, span: Span) -> Option<(Kind, &[u8])>
+        ensures kind { option_map (λ x. x.0) result ≡ kind_at self.now.kept span.packet_id span.number }
+        ensures bytes { option_map (λ x. x.1.now) result ≡ payload_at self.now.kept span.packet_id span.number }
+        ensures short { IfSome result (λ x. length x.1.now < 2 ^ 31) }
+    {
+        let stored = self.packets.get(&span)?;
+        Some((stored.kind, &stored.payload))
     }
 
     /// So many bytes of a kept packet's payload from `from` on, lent.

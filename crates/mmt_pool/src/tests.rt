@@ -136,3 +136,18 @@ fn lends_what_is_kept_until_it_expires(rt: HostRuntime) -> Result<(), Fail> {
     assert_eq!(rt; (pool.held(), pool.peak()), (0, 4));
     Ok(())
 }
+
+#[test]
+fn pool_400000_packets(rt: HostRuntime) -> Result<(), Fail> {
+    let mut pool = Pool::new(rt.alloc(), 400_000)?;
+    for number in 0..400_000 {
+        assert_eq!(rt;
+            store(&mut pool, 0, Kind::Mpu, number, number ^ 0xFF, &[1], 0),
+            Ok(span(number))
+        );
+    }
+    assert_eq!(rt; pool.held(), 400_000);
+    expire(&mut pool, Tick(500_000), 1000);
+    assert_eq!(rt; (pool.held(), pool.peak()), (0, 400_000));
+    Ok(())
+}

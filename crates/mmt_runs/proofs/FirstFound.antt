@@ -13,23 +13,20 @@ use Rattle.mmt_runs.specs.Reading.{heard}
 use Rattle.mmt_runs.specs.Order.{stands_after}
 use Rattle.mmt_runs.specs.Leading.{first, rest_after}
 use Rattle.mmt_runs.specs.Choosing.{is_sought, better, best}
+use Rattle.mmt_runs.specs.Seeking.{Among}
 use Rattle.mmt_runs.proofs.Rising.{Each, Rising}
 use Rattle.mmt_runs.proofs.Sorted.{Apart, due_first, either, through, named_rising, due_rising}
 
-abbrev Among : Presentation → List Presentation → Type 0
-Among d [] = ⊥
-Among d (x ∷ xs) = (x ≡ d) ⊎ Among d xs
+pub record Least (p : Presentation → Bool) (S : Presentation → Type 0) (m : Presentation) : Type 0 where
+  pub inside : S m
+  pub passing : p m ≡ true
+  pub least : (d : Presentation) → S d → p d ≡ true → is_presented_before d m ≡ false
 
-record Least (p : Presentation → Bool) (S : Presentation → Type 0) (m : Presentation) : Type 0 where
-  inside : S m
-  passing : p m ≡ true
-  least : (d : Presentation) → S d → p d ≡ true → is_presented_before d m ≡ false
-
-abbrev Found : (Presentation → Bool) → (Presentation → Type 0) → Option Presentation → Type 0
+abbrev pub Found : (Presentation → Bool) → (Presentation → Type 0) → Option Presentation → Type 0
 Found p S None = (d : Presentation) → S d → p d ≡ false
 Found p S (Some m) = Least p S m
 
-false_of : (b : Bool) → (b ≡ true → ⊥) → b ≡ false
+pub false_of : (b : Bool) → (b ≡ true → ⊥) → b ≡ false
 false_of true h = absurd (h refl)
 false_of false h = refl
 
@@ -41,7 +38,7 @@ one_way : (d e : Presentation) → is_presented_before d e ≡ true → is_prese
 unfolding is_presented_before
 one_way d e a = false_of (precedes (order_numbers e) (order_numbers d)) (λ b. before-one_way (order_numbers d) (order_numbers e) a b)
 
-itself : (d : Presentation) → is_presented_before d d ≡ false
+pub itself : (d : Presentation) → is_presented_before d d ≡ false
 unfolding is_presented_before
 itself d = false_of (precedes (order_numbers d) (order_numbers d)) (λ b. before-one_way (order_numbers d) (order_numbers d) b b)
 
@@ -82,7 +79,7 @@ unfolding better
 better_found p S None x f = better_none p S x (p x) refl f
 better_found p S (Some m) x f = better_some p S m x (p x) (is_presented_before x m) refl refl f
 
-best_found : (p : Presentation → Bool) (S : Presentation → Type 0) (o : Option Presentation) (ds : List Presentation) → Found p S o → Found p (λ d. S d ⊎ Among d ds) (best p o ds)
+pub best_found : (p : Presentation → Bool) (S : Presentation → Type 0) (o : Option Presentation) (ds : List Presentation) → Found p S o → Found p (λ d. S d ⊎ Among d ds) (best p o ds)
 unfolding best
 best_found p S o [] f = found_map p S (λ d. S d ⊎ Among d []) o (λ d s. inl s) (λ d t. ⊎_elim (λ (s : S d). s) (λ (n : ⊥). absurd n) t) f
 best_found p S o (x ∷ xs) f =
@@ -90,9 +87,6 @@ best_found p S o (x ∷ xs) f =
     (λ d s. ⊎_elim (λ (a : S d ⊎ (x ≡ d)). ⊎_elim (λ (b : S d). inl b) (λ (b : x ≡ d). inr (inl b)) a) (λ (a : Among d xs). inr (inr a)) s)
     (λ d t. ⊎_elim (λ (a : S d). inl (inl a)) (λ (a : (x ≡ d) ⊎ Among d xs). ⊎_elim (λ (b : x ≡ d). inl (inr b)) (λ (b : Among d xs). inr b) a) t)
     (best_found p (λ d. S d ⊎ (x ≡ d)) (better p o x) xs (better_found p S o x f))
-
-all_found : (p : Presentation → Bool) (ds : List Presentation) → Found p (λ d. Among d ds) (best p None ds)
-all_found p ds = found_map p (λ d. ⊥ ⊎ Among d ds) (λ d. Among d ds) (best p None ds) (λ d s. ⊎_elim (λ (n : ⊥). absurd n) (λ (a : Among d ds). a) s) (λ d a. inr a) (best_found p (λ d. ⊥) None ds (λ d n. absurd n))
 
 each_among : (P : Presentation → Type 0) (ds : List Presentation) (d : Presentation) → Each P ds → Among d ds → P d
 each_among P [] d h a = absurd a
@@ -190,13 +184,14 @@ only_one p ds (Some m) (Some n) rise f g =
     (λ (a : Apart m n). absurd (⊎_elim (λ (l : is_presented_before m n ≡ true). both (is_presented_before m n) l (g.least m f.inside f.passing)) (λ (l : is_presented_before n m ≡ true). both (is_presented_before n m) l (f.least n g.inside g.passing)) a))
     (apart_of ds m n rise f.inside g.inside)
 
-pub best_first : (known : Known) (kept : List Kept) (after : Option UnitOrder) (from to : ℕ) → IsInOrder kept
-    → best (is_sought after from to) None (named_units known.sample_base known.entries (units_of (map heard kept))) ≡ first (rest_after after (due_units known.sample_base known.entries (units_of (map heard kept)) from to))
+-- the least of all that are looked for is the first of those in their order
+pub found_first : (known : Known) (kept : List Kept) (after : Option UnitOrder) (from to : ℕ) (o : Option Presentation) → IsInOrder kept
+    → Found (is_sought after from to) (λ d. Among d (named_units known.sample_base known.entries (units_of (map heard kept)))) o
+    → o ≡ first (rest_after after (due_units known.sample_base known.entries (units_of (map heard kept)) from to))
 unfolding is_sought
-best_first known kept after from to order =
+found_first known kept after from to o order f =
     let ds : List Presentation = named_units known.sample_base known.entries (units_of (map heard kept)) in
     let q : Presentation → Bool = λ d. is_passed (low (due_of d.time)) from to in
     let r : Rising is_presented_before (sort_by is_presented_before (filter q ds)) = due_rising known kept from to order in
-    only_one (λ d. q d && stands_after after d) ds (best (λ d. q d && stands_after after d) None ds) (first (filter (stands_after after) (sort_by is_presented_before (filter q ds)))) (named_rising known kept order)
-    (all_found (λ d. q d && stands_after after d) ds)
+    only_one (λ d. q d && stands_after after d) ds o (first (filter (stands_after after) (sort_by is_presented_before (filter q ds)))) (named_rising known kept order) f
     (sorted_found q (stands_after after) ds (first (filter (stands_after after) (sort_by is_presented_before (filter q ds)))) (first_found (stands_after after) (sort_by is_presented_before (filter q ds)) r))

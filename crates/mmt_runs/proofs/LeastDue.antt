@@ -1,4 +1,4 @@
--- The first of the due units, from the spans that were told of.
+-- The named units, from the spans of the kept packets.
 use Rattle.std.proofs.Common.{◌≡◌, ℕ, true, false, List, [], ◌∷◌, ◌++◌, map, length, refl, ap, sym, ◌∙◌, arith, append_assoc, Option, Some, None}
 use Rattle.std.specs.List.{flat_map}
 use Rattle.std.proofs.lemmas.Bool.Decides.{nat_tests}
@@ -13,13 +13,9 @@ use Rattle.mmt_pool.specs.Holding.{packet_at as kept_at, is_before as stands_bef
 use Rattle.mmt_pool.specs.Doing.{span_of}
 use Rattle.mmt_runs.specs.declared.order.UnitOrder.{UnitOrder}
 use Rattle.mmt_runs.specs.Reading.{heard}
-use Rattle.mmt_runs.specs.Told.{IsTold}
-use Rattle.mmt_runs.specs.Leading.{first, rest_after}
-use Rattle.mmt_runs.specs.Choosing.{is_sought, best, named_at, named_in}
+use Rattle.mmt_runs.specs.Choosing.{named_at}
+use Rattle.mmt_runs.specs.Seeking.{named_of}
 use Rattle.mmt_runs.proofs.Rising.{Each, Rising, order_rising}
-use Rattle.mmt_runs.proofs.Better.{best_append}
-use Rattle.mmt_runs.proofs.Beginning.{length_mapped}
-use Rattle.mmt_runs.proofs.FirstFound.{best_first}
 
 flat_append : {A B : Type 0} (f : A → List B) (xs ys : List A) → flat_map f (xs ++ ys) ≡ flat_map f xs ++ flat_map f ys
 flat_append f [] ys = refl
@@ -48,29 +44,7 @@ named_each known all kept [] h = refl
 named_each known all kept (p ∷ ps) h =
     rw h.0 (ap (λ l. named_units known.sample_base known.entries (units_by all (heard p) (heard p).payload) ++ l) (named_each known all kept ps h.1) ∙ sym (flat_append _ (units_by all (heard p) (heard p).payload) (flat_map (λ h. units_by all h h.payload) (map heard ps))))
 
-pub named_told : (known : Known) (kept : List Kept) → IsInOrder kept → named_in known kept (map span_of kept) ≡ named_units known.sample_base known.entries (units_of (map heard kept))
-unfolding named_in units_of
-named_told known kept order = named_each known (map heard kept) kept kept (each_itself kept (order_rising kept order))
-
-pub told_length : (spans : List Span) (kept : List Kept) (known : Known) → IsTold spans kept known → length spans ≡ length kept
-unfolding IsTold
-told_length spans kept known t = ap length t.spans_are ∙ length_mapped span_of kept
-
--- one more span
-pub next_span : (after : Option UnitOrder) (from to : ℕ) (b b' : Option Presentation) (known : Known) (kept : List Kept) (s : Span) (spans : List Span) → b' ≡ best (is_sought after from to) b (named_at known (map heard kept) (kept_at kept s.packet_id s.number))
-    → best (is_sought after from to) b' (named_in known kept spans) ≡ best (is_sought after from to) b (named_in known kept (s ∷ spans))
-unfolding named_in
-next_span after from to b b' known kept s spans e =
-    ap (λ x. best (is_sought after from to) x (named_in known kept spans)) e
-    ∙ sym (best_append (is_sought after from to) b (named_at known (map heard kept) (kept_at kept s.packet_id s.number)) (named_in known kept spans))
-
-pub no_span : (after : Option UnitOrder) (from to : ℕ) (b : Option Presentation) (known : Known) (kept : List Kept) → best (is_sought after from to) b (named_in known kept []) ≡ b
-unfolding named_in best
-no_span after from to b known kept = refl
-
--- the best of all is the first that is looked for of those in their order
-pub least_is : (known : Known) (kept : List Kept) (spans : List Span) (after : Option UnitOrder) (from to : ℕ) → IsTold spans kept known
-    → best (is_sought after from to) None (named_in known kept spans) ≡ first (rest_after after (due_units known.sample_base known.entries (units_of (map heard kept)) from to))
-unfolding IsTold
-least_is known kept spans after from to told =
-    ap (λ s. best (is_sought after from to) None (named_in known kept s)) told.spans_are ∙ (ap (best (is_sought after from to) None) (named_told known kept told.in_order) ∙ best_first known kept after from to told.in_order)
+-- the named units that begin in the packets one after another are all named units
+pub named_kept : (known : Known) (kept : List Kept) → IsInOrder kept → flat_map (λ s. named_of known kept s) (map span_of kept) ≡ named_units known.sample_base known.entries (units_of (map heard kept))
+unfolding units_of
+named_kept known kept order = named_each known (map heard kept) kept kept (each_itself kept (order_rising kept order))

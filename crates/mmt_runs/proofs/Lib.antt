@@ -17,4 +17,8 @@ pub mod FirstFound
 pub mod LeastDue
 pub mod Rest
 pub mod Spans
+pub mod DueOrder
+pub mod Indexing
+pub mod Naming
+pub mod Sought
 pub mod Handed

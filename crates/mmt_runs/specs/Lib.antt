@@ -4,10 +4,12 @@ pub mod MessageParts
 pub mod Order
 pub mod Leading
 pub mod Lending
+pub mod Index
 pub mod Told
 pub mod Links
 pub mod Lone
 pub mod Media
 pub mod Following
 pub mod Choosing
+pub mod Seeking
 pub mod Offers

@@ -7,9 +7,9 @@ ghost use Rattle.mmt_runs.specs.Order.{numbers_of};
 use crate::order::UnitOrder;
 use mmt_model::UnitKey;
 
-// The place as numbers, from the first that counts to the last.
+/// The place as numbers, from the first that counts to the last.
 #[tactic(auto, unfolding(crate::specs::Order::numbers_of, mmt_model::specs::Handing::key_numbers))]
-fn numbers(order: &UnitOrder) -> [u64; 9]
+pub(crate) fn numbers(order: &UnitOrder) -> [u64; 9]
     ensures { result ≡ numbers_of order.now }
 {
     let time = order.time.0;
@@ -40,9 +40,9 @@ fn numbers(order: &UnitOrder) -> [u64; 9]
     }
 }
 
-// Whether the first list is less in the first number in which the two differ.
+/// Whether the first list is less in the first number in which the two differ.
 #[tactic(auto, unfolding(mmt_model::specs::Handing::precedes))]
-fn is_less(a: &[u64], b: &[u64]) -> bool
+pub(crate) fn is_less(a: &[u64], b: &[u64]) -> bool
     ensures { result ≡ precedes a.now b.now }
 {
     match a {

@@ -114,17 +114,14 @@ fn better_run<'a>(
     Some(UnitParts::new(pool, order, head.timed, unit, extent))
 }
 
-/// The best of the units that begin in the packet of this span, and of the best so far. There are
-/// `most` packets in the pool.
+/// The best of the units that begin in the packet of this span, and of the best so far.
 pub(crate) fn best_in<'a>(
     pool: &'a Pool,
     range: &Range<'_>,
     span: Span,
-    most: usize,
     best: Option<UnitParts<'a>>,
 ) -> Option<UnitParts<'a>>
-    requires { most < 2 ^ 63 }
-    ensures { most ≡ length pool.now.kept → option_map the_presentation result ≡ best_of (sought (order_now range.now.after) range.now.from.0 range.now.to.0) (option_map the_presentation best.entry) (named_at range.now.names.now (map heard pool.now.kept) (kept_at pool.now.kept span.packet_id span.number)) }
+    ensures { option_map the_presentation result ≡ best_of (sought (order_now range.now.after) range.now.from.0 range.now.to.0) (option_map the_presentation best.entry) (named_at range.now.names.now (map heard pool.now.kept) (kept_at pool.now.kept span.packet_id span.number)) }
 {
     let bytes = match media_bytes(pool, span) {
         Some(bytes) => bytes,
@@ -135,6 +132,8 @@ pub(crate) fn best_in<'a>(
         Err(_) => return best,
     };
     let head = payload.head();
+    // A part has a header of its own, so a run has no more packets than bytes.
+    let most = pool.held() as usize;
     match head.part {
         Part::Whole => best_whole(pool, range, span, &payload, best),
         Part::First => match lone_unit(payload.units()) {

@@ -5,6 +5,7 @@ mod choosing;
 mod compare;
 mod finding;
 mod following;
+mod index;
 mod links;
 #[cfg(test)]
 mod message_tests;
@@ -12,6 +13,8 @@ mod messages;
 mod order;
 mod parts;
 mod runs;
+mod seeking;
+mod starting;
 #[cfg(test)]
 mod tests;
 

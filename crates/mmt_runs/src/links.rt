@@ -70,11 +70,14 @@ pub(crate) fn media_bytes<'a>(pool: &'a Pool, span: Span) -> Option<&'a [u8]>
     ensures bytes { option_map (λ x. x.now) result ≡ media_at (kept_at pool.now.kept span.packet_id span.number) }
     ensures short { IfSome result (λ x. length x.now < 2 ^ 31) }
 {
-    match pool.kind(span) {
-        None => None,
-        Some(Kind::Generic) => None,
-        Some(Kind::Signalling) => None,
-        Some(Kind::Mpu) => pool.payload(span),
+    let (kind, bytes) = match pool.packet(span) {
+        Some(found) => found,
+        None => return None,
+    };
+    match kind {
+        Kind::Mpu => Some(bytes),
+        Kind::Generic => None,
+        Kind::Signalling => None,
     }
 }
 

@@ -1,21 +1,31 @@
 //! What was told of a pool, and the units that its packets make whole.
 
 use crate::choosing::Range;
-use crate::finding::best_in;
+use crate::index::{Begun, Due, take_out};
 use crate::order::UnitOrder;
 use crate::parts::UnitParts;
+use crate::seeking::{least_by_order, least_of_all};
+use crate::starting::{begun_in, put_named, put_units};
 use mmt_base::{OutOfMemory, Tick};
 use mmt_pool::{Pool, Span};
 use mmt_times::Names;
 use std::alloc::Global;
-use std::collections::BTreeSet;
+use std::collections::{BTreeMap, BTreeSet};
 use std::marker::Model;
 
-/// The kept packets of a pool, as they were told of one by one: those that were stored in it and
-/// those that were taken out. It finds the whole units among them, which it has no bytes of.
+#[cfg(test)]
+mod inside;
+
+/// The packets of a pool that units may begin in, as they were told of one by one, and an index of
+/// these units in the order in which units are handed out. It has no bytes of them.
+///
+/// Where there is no memory for the index, it is given up, and all those packets are looked at.
 #[derive(Drop)]
 pub struct Runs {
-    spans: BTreeSet<Span>,
+    starts: BTreeMap<Span, u32>,
+    index: BTreeSet<Due>,
+    begun: BTreeSet<Begun>,
+    is_indexed: bool,
 }
 
 impl Model for Runs {
@@ -23,7 +33,7 @@ impl Model for Runs {
 
     ghost Value = { Tracked };
 
-    ghost view = { λ a. a.spans.keys };
+    ghost view = { λ a. record { starts = a.starts.entries; index = a.index.keys; is_indexed = a.is_indexed } };
 }
 
 impl Runs {
@@ -46,7 +56,10 @@ impl Runs {
         ensures { (known : Known) → known.entries ≡ [] → IsTold result [] known }
     {
         Runs {
-            spans: BTreeSet::new(alloc),
+            starts: BTreeMap::new(alloc),
+            index: BTreeSet::new(alloc),
+            begun: BTreeSet::new(alloc),
+            is_indexed: true,
         }
     }
 
@@ -60,7 +73,14 @@ impl Runs {
         ensures told { (kept : List Kept) (p : Kept) → IsTold self.old kept names.now → span ≡ span_of p → pool.now.kept ≡ insert_by is_before p kept → IsInOrder pool.now.kept → OnOk result (IsTold self.new pool.now.kept names.now) }
         ensures unchanged { OnErr result (self.new ≡ self.old) }
     {
-        self.spans.insert(span)?;
+        let payload = match begun_in(pool, span) {
+            Some(payload) => payload,
+            None => return Ok(()),
+        };
+        self.starts.insert(span, payload.head().mpu)?;
+        if !put_units(&mut self.index, &mut self.begun, names, span, &payload) {
+            self.is_indexed = false;
+        }
         Ok(())
     }
 
@@ -80,6 +100,19 @@ impl Runs {
         ensures told { (before : List Entry) (e : Entry) → IsTold self.old pool.now.kept (record { entries = before; sample_base = names.now.sample_base }) → names.now.entries ≡ before ++ e ∷ [] → e.packet_id ≡ packet_id → e.mpu ≡ mpu → OnOk result (IsTold self.new pool.now.kept names.now) }
         ensures unchanged { OnErr result (self.new ≡ self.old) }
     {
+        let _ = names.len();
+        let starts = &self.starts;
+        if !put_named(
+            &mut self.index,
+            &mut self.begun,
+            starts,
+            pool,
+            names,
+            packet_id,
+            mpu,
+        ) {
+            self.is_indexed = false;
+        }
         Ok(())
     }
 
@@ -87,7 +120,9 @@ impl Runs {
     pub fn removed(&mut self, span: Span)
         ensures { (kept : List Kept) (known : Known) → IsTold self.old kept known → IsTold self.new (without kept span.packet_id span.number) known }
     {
-        let _ = self.spans.remove(&span);
+        if let Some(_) = self.starts.remove(&span) {
+            take_out(&mut self.index, &mut self.begun, span);
+        }
     }
 
     /// The first of the whole units, in the order in which units are handed out, that is named, has
@@ -109,11 +144,10 @@ impl Runs {
             from,
             to,
         };
-        let most = self.spans.len();
-        let mut best: Option<UnitParts<'a>> = None;
-        for span in &self.spans {
-            best = best_in(pool, &range, *span, most, best);
+        if self.is_indexed {
+            least_by_order(&self.index, pool, &range)
+        } else {
+            least_of_all(&self.starts, pool, &range)
         }
-        best
     }
 }

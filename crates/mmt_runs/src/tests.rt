@@ -368,3 +368,49 @@ fn a_due_tick_is_after_the_first_and_at_most_at_the_last(rt: HostRuntime) -> Res
     }
     Ok(())
 }
+
+// Keeps `per` whole units of one byte of each of the MPUs from 0 on, of which all are named first.
+fn keep_many(rt: &impl Abort, alloc: Global, mpus: u32, per: u32) -> Result<Kept, OutOfMemory> {
+    let mut kept = Kept {
+        pool: Pool::new(alloc, 4_000_000)?,
+        names: Names::new(alloc, 1)?,
+        runs: Runs::new(alloc),
+    };
+    for mpu in 0..mpus {
+        name(rt, &mut kept, 1, mpu, 3000 + mpu % 16);
+    }
+    let mut number: u32 = 0;
+    for mpu in 0..mpus {
+        for sample in 0..per {
+            let told = keep(&mut kept, span(1, number), &timed(WHOLE, mpu, sample, b'a'));
+            assert_eq!(rt; told, Ok(()));
+            number = number.wrapping_add(1);
+        }
+    }
+    Ok(kept)
+}
+
+#[test]
+fn drain_100000_units(rt: HostRuntime) -> Result<(), Fail> {
+    let kept = keep_many(&rt, rt.alloc(), 400, 250)?;
+    let mut after: Option<UnitOrder> = None;
+    let mut count: u32 = 0;
+    for _ in 0..100_001 {
+        let found = kept.runs.least_due(
+            &kept.pool,
+            &kept.names,
+            after.as_ref(),
+            Tick(100),
+            Tick(4000),
+        );
+        match found {
+            Some(unit) => {
+                after = Some(unit.order());
+                count = count.wrapping_add(1);
+            }
+            None => break,
+        }
+    }
+    assert_eq!(rt; count, 100_000);
+    Ok(())
+}

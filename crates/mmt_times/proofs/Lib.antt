@@ -11,3 +11,5 @@ pub mod TryingSteps
 pub mod Formula
 pub mod Laws
 pub mod Written
+pub mod OneEach
+pub mod Quietness

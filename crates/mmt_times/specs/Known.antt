@@ -1,9 +1,9 @@
 -- The live entries that a receiver keeps, and the times that they give.
-use Rattle.std.specs.Prelude.{ℕ, Bool, ◌&&◌, ◌==◌, List, [], ◌∷◌, Option, Some, None, option_map, if◌then◌else◌}
+use Rattle.std.specs.Prelude.{◌≡◌, ℕ, Bool, false, ◌&&◌, ◌==◌, List, [], ◌∷◌, Option, Some, None, option_map, if◌then◌else◌, ⊤}
 use Rattle.std.specs.List.{list_any}
 use Rattle.mmt_base.specs.Ticks.{due_of, is_passed, low}
 use Rattle.mmt_model.specs.declared.keys.UnitKey.{UnitKey}
-use Rattle.mmt_model.specs.Entries.{Entry}
+use Rattle.mmt_model.specs.Entries.{Entry, is_of_same_mpu}
 use Rattle.mmt_model.specs.Handing.{time_for}
 
 -- the live entries in the order in which they were learned, and the number of the sample that an MPU's first access unit is (this project's rule)
@@ -23,3 +23,8 @@ time_in k packet_id mpu key = option_map (λ e. time_for k.sample_base e key) (e
 -- the clock passes the due tick of a time of an entry, its own or an access unit's, on its way from one tick to another (this project's rule)
 abbrev pub has_due : ℕ → ℕ → Entry → Bool
 has_due from to e = list_any (λ t. is_passed (low (due_of t)) from to) (e.time ∷ e.aus)
+
+-- no two entries are of the same MPU (this project's rule)
+unfoldable pub HasOneEach : List Entry → Type 0
+HasOneEach [] = ⊤
+HasOneEach (e ∷ es) = (list_any (is_of_same_mpu e) es ≡ false) × HasOneEach es

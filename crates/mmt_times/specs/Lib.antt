@@ -20,3 +20,4 @@ pub mod NamedView
 pub mod TryingLeft
 pub mod AssetNamesLeft
 pub mod NamedLeft
+pub mod Quiet

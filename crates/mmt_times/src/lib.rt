@@ -19,6 +19,7 @@ mod names;
 mod of_table;
 mod pair;
 mod parts_left;
+mod quiet;
 mod reading_aus;
 mod reading_extended;
 mod reading_stamps;

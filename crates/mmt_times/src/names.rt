@@ -12,6 +12,7 @@ ghost use Rattle.mmt_times.specs.LearnedView.{view_learned};
 
 use crate::entry::Entry;
 use crate::learned::Learned;
+use crate::quiet::{is_within, quiet_slots};
 use crate::slot::Slot;
 use mmt_base::{Ntp, OutOfMemory, Tick, due_of};
 use mmt_model::UnitKey;
@@ -27,18 +28,22 @@ use std::marker::Model;
 pub struct Names {
     slots: Vec<Slot>,
     sample_base: u32,
+    // No time is due in so many ticks after this one.
+    quiet_from: Tick,
+    quiet: u32,
 }
 
 impl Model for Names {
-    ghost use Rattle.std.specs.Prelude.{map, ◌≤◌, vec_capacity, vec_len};
-    ghost use Rattle.mmt_times.specs.Known.{Known};
+    ghost use Rattle.std.specs.Prelude.{map, ◌≤◌, ◌<◌, ◌^◌, vec_capacity, vec_len};
+    ghost use Rattle.mmt_times.specs.Quiet.{IsQuiet};
+    ghost use Rattle.mmt_times.specs.Known.{Known, HasOneEach};
     ghost use Rattle.mmt_times.specs.SlotView.{slot_entry};
 
     ghost Value = { Known };
 
     ghost view = { λ n. record { entries = map slot_entry n.slots.items; sample_base = n.sample_base } };
 
-    ghost invariant = { λ n. (1024 ≤ vec_capacity n.slots) × (vec_len n.slots ≤ 1024) × (n.sample_base ≤ 1) };
+    ghost invariant = { λ n. (1024 ≤ vec_capacity n.slots) × (vec_len n.slots ≤ 1024) × (n.sample_base ≤ 1) × HasOneEach (map slot_entry n.slots.items) × IsQuiet n.quiet_from.0 n.quiet (map slot_entry n.slots.items) × (n.quiet_from.0 < 2 ^ 32) };
 }
 
 // Keeps the slots that the clock does not pass on its way from one tick to another.
@@ -120,7 +125,7 @@ impl Names {
     ghost use Rattle.mmt_times.specs.EntryView.{view_entry};
     ghost use Rattle.mmt_times.specs.Learning.{verdict};
     ghost use Rattle.mmt_times.specs.LearnedView.{view_learned, ChangesNothing};
-    ghost use Rattle.mmt_times.specs.Known.{Known, time_in};
+    ghost use Rattle.mmt_times.specs.Known.{Known, HasOneEach, time_in};
 
     /// No entries yet. The first access unit of an MPU is that of sample number `sample_base`, which
     /// is to be 0 or 1. It takes room for 1,024 entries, about 2 MB.
@@ -133,7 +138,12 @@ impl Names {
         ensures { IfOk result (λ names. names ≡ record { entries = []; sample_base = sample_base }) }
     {
         let slots = Vec::with_capacity(alloc, 1024)?;
-        Ok(Names { slots, sample_base })
+        Ok(Names {
+            slots,
+            sample_base,
+            quiet_from: Tick(0),
+            quiet: 0,
+        })
     }
 
     /// Keeps an entry that a table names, where it is new.
@@ -152,6 +162,7 @@ impl Names {
         let answer = asked(&self.slots, clock, entry);
         if let Learned::New = answer {
             add(&mut self.slots, Slot::of(entry));
+            self.quiet = 0;
             return Learned::New;
         }
         answer
@@ -164,6 +175,10 @@ impl Names {
         ensures bounded { length self.new.entries ≤ 1024 }
     {
         keep(&mut self.slots, from, to);
+        if !is_within(self.quiet_from, self.quiet, from, to) {
+            self.quiet = quiet_slots(&self.slots, to);
+            self.quiet_from = to;
+        }
     }
 
     /// The time of the unit of this packet id, MPU and key, in units of 2^-32 second: that of its
@@ -181,13 +196,14 @@ impl Names {
     pub fn is_any_due(&self, from: Tick, to: Tick) -> bool
         ensures { result ≡ list_any (due_within from.0 to.0) self.now.entries }
     {
-        is_any_due(&self.slots, from, to)
+        !is_within(self.quiet_from, self.quiet, from, to) && is_any_due(&self.slots, from, to)
     }
 
-    /// How many entries there are, at most 1,024.
+    /// How many entries there are, at most 1,024, of which no two are of the same MPU.
     pub fn len(&self) -> u32
         ensures count { result ≡ length self.now.entries }
         ensures bounded { result ≤ 1024 }
+        ensures one_each { HasOneEach self.now.entries }
     {
         self.slots.len() as u32
     }

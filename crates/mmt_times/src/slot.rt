@@ -72,7 +72,7 @@ fn is_any_passed(times: &[Ntp], from: Tick, to: Tick) -> bool
 }
 
 impl Slot {
-    ghost use Rattle.std.specs.Prelude.{◌≡◌};
+    ghost use Rattle.std.specs.Prelude.{◌≡◌, take};
     ghost use Rattle.mmt_times.specs.Known.{has_due as due_within};
     ghost use Rattle.mmt_times.specs.SlotView.{slot_entry};
     ghost use Rattle.mmt_times.specs.EntryView.{view_entry};
@@ -93,6 +93,13 @@ impl Slot {
             count: entry.count() as usize,
             aus: copied(entry.times()),
         }
+    }
+
+    // The times of the access units.
+    pub(crate) fn aus(&self) -> &[Ntp]
+        ensures { result.now ≡ take self.now.count self.now.aus }
+    {
+        &self.aus[..self.count]
     }
 
     // Whether an entry has the same time and the same times of access units.

@@ -17,4 +17,4 @@ pub returns-clause-kept : goal.returns-clause-kept
 returns-clause-kept c =
     let k : packet_at (map entry_of c.self.inside.packets.entries) c.args.span.packet_id c.args.span.number ≡ Some (entry_of (c.args.span, c.in_ok-stored.stored.now)) =
     rw (packet_at-entries c.args.span c.self.inside.packets.entries, ← c.in_ok-stored.ensures.value) refl in
-    (each_at IsKeepable _ _ _ _ c.self.invariant.0.keepable k).kind
+    (each_at IsKeepable _ _ _ _ c.self.invariant.sound.keepable k).kind

@@ -10,7 +10,7 @@ slice_bounds-result-end c =
     let k : packet_at (map entry_of c.self.inside.packets.entries) c.args.span.packet_id c.args.span.number ≡ Some (entry_of (c.args.span, c.in-Some.stored.now)) =
     rw (packet_at-entries c.args.span c.self.inside.packets.entries, ← c.in-Some.ensures.value) refl in
     let has : HasPart (map entry_of c.self.inside.packets.entries) c.args.span.packet_id c.args.span.number c.args.from c.args.length = rw (← c.self.view_is) at c.requires in
-    let fits : c.args.from + c.args.length ≤ length c.deref.result.now = rw c.deref.ensures.value (part_in _ _ _ _ _ _ has k) in
+    let fits : c.args.from + c.args.length ≤ length c.deref.result.now = rw c.deref.ensures (part_in _ _ _ _ _ _ has k) in
     search (rules, fits)
 
 pub unreachable-requires : goal.unreachable-requires
@@ -24,4 +24,4 @@ pub returns : goal.returns
 returns c =
     let k : packet_at (map entry_of c.self.inside.packets.entries) c.args.span.packet_id c.args.span.number ≡ Some (entry_of (c.args.span, c.in-Some.stored.now)) =
     rw (packet_at-entries c.args.span c.self.inside.packets.entries, ← c.in-Some.ensures.value) refl in
-    rw (← c.self.view_is) (part_is _ _ _ _ _ _ _ k c.deref.ensures.value)
+    rw (← c.self.view_is) (part_is _ _ _ _ _ _ _ k c.deref.ensures)

@@ -11,10 +11,10 @@ returns-in_err-stored-clause-bytes c =
 
 pub returns-clause-bytes : goal.returns-clause-bytes
 returns-clause-bytes c =
-    rw (← c.self.view_is, packet_at-entries c.args.span c.self.inside.packets.entries, ← c.in_ok-stored.ensures.value, c.deref.ensures.value) refl
+    rw (← c.self.view_is, packet_at-entries c.args.span c.self.inside.packets.entries, ← c.in_ok-stored.ensures.value, c.deref.ensures) refl
 
 pub returns-clause-short : goal.returns-clause-short
 returns-clause-short c =
     let k : packet_at (map entry_of c.self.inside.packets.entries) c.args.span.packet_id c.args.span.number ≡ Some (entry_of (c.args.span, c.in_ok-stored.stored.now)) =
     rw (packet_at-entries c.args.span c.self.inside.packets.entries, ← c.in_ok-stored.ensures.value) refl in
-    rw c.deref.ensures.value (each_at IsKeepable _ _ _ _ c.self.invariant.0.keepable k).short
+    rw c.deref.ensures (each_at IsKeepable _ _ _ _ c.self.invariant.sound.keepable k).short

@@ -26,13 +26,13 @@ returns-then-contains_key-clause-refuses c =
 pub returns-then-length-self-clause-refuses : goal.returns-then-length-self-clause-refuses
 returns-then-length-self-clause-refuses c =
     let s : Span = record { packet_id = c.args.packet.now.packet_id; number = c.args.packet.now.number } in
-    let h : c.self.inside.total ≡ held c.args.self.now.kept = c.self.invariant.1 ∙ ap (λ w. held w.kept) c.self.view_is in
+    let h : c.self.inside.total ≡ held c.args.self.now.kept = c.self.invariant.sum ∙ ap (λ w. held w.kept) c.self.view_is in
     let b : c.self.inside.bound ≡ c.args.self.now.bound = ap (λ w. w.bound) c.self.view_is in
     (pool_outcome-full _ _ _ (of_packet c.args.packet.now) (rw c.plus.ensures at (sym c.if-is_after.ensures)) (any_kept false c.args.self.now s c.self.inside.packets.entries (ap (λ h. h.kept) (sym c.self.view_is)) (sym c.if-contains_key.ensures)) (omega (arith, h, b)), h, refl)
 
 pub returns-clause-refuses : goal.returns-clause-refuses
 returns-clause-refuses c =
     let s : Span = record { packet_id = c.args.packet.now.packet_id; number = c.args.packet.now.number } in
-    let h : c.self.inside.total ≡ held c.args.self.now.kept = c.self.invariant.1 ∙ ap (λ w. held w.kept) c.self.view_is in
+    let h : c.self.inside.total ≡ held c.args.self.now.kept = c.self.invariant.sum ∙ ap (λ w. held w.kept) c.self.view_is in
     let b : c.self.inside.bound ≡ c.args.self.now.bound = ap (λ w. w.bound) c.self.view_is in
-    pool_outcome-stored _ _ _ (of_packet c.args.packet.now) (rw c.plus.ensures at (sym c.if-is_after.ensures)) (any_kept false c.args.self.now s c.self.inside.packets.entries (ap (λ h. h.kept) (sym c.self.view_is)) (sym c.if-contains_key.ensures)) (omega (arith, h, b, c.self.invariant.0.within_peak, c.self.invariant.0.within_bound, c.self.invariant.1))
+    pool_outcome-stored _ _ _ (of_packet c.args.packet.now) (rw c.plus.ensures at (sym c.if-is_after.ensures)) (any_kept false c.args.self.now s c.self.inside.packets.entries (ap (λ h. h.kept) (sym c.self.view_is)) (sym c.if-contains_key.ensures)) (omega (arith, h, b, c.self.invariant.sound.within_peak, c.self.invariant.sound.within_bound, c.self.invariant.sum))

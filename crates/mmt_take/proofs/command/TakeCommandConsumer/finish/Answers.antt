@@ -4,7 +4,7 @@ use Rattle.mmt_output.specs.Putting.{only_written, Puts, PutsStart}
 use Rattle.mmt_tune.specs.Tuning.{Placed}
 use Rattle.mmt_recv.specs.Receiving.{State, Stands, summary_of}
 use Rattle.mmt_take.specs.Taking.{placed, line_of, last_records}
-use Rattle.mmt_take.proofs.Turns.{finishes, finishes_start, finishes_part}
+use Rattle.mmt_take.proofs.Turns.{finishes, finishes_start, finishes_records, finishes_part}
 use Rattle.mmt_take.proofs.command.TakeCommandConsumer.finish.Goals as goal
 
 pub returns-in-Err-clause-finished : goal.returns-in-Err-clause-finished
@@ -13,6 +13,13 @@ returns-in-Err-clause-finished g c = λ told packets stood.
     let before : Stands c.self.inside.receiver ps = rw c.self.view_is stood in
     finishes_part c.args.self.config packets _ _
     (subst (λ (s : State). PutsStart (g.P.Port.history c.args.port.now) (g.P.Port.history c.finish.new.port) (only_written (last_records s.config ps))) c.self.view_is (c.in-Err.ensures.put told ps before))
+
+pub returns-in-Err-line-clause-finished : goal.returns-in-Err-line-clause-finished
+returns-in-Err-line-clause-finished g c = λ told packets stood.
+    let ps : List Placed = placed (newest_first packets) in
+    let before : Stands c.self.inside.receiver ps = rw c.self.view_is stood in
+    finishes_records c.args.self.config packets (g.P.Port.history c.args.port.now) (g.P.Port.history c.finish.new.port)
+    (subst (λ (s : State). Puts (g.P.Port.history c.args.port.now) (g.P.Port.history c.finish.new.port) (only_written (last_records s.config ps))) c.self.view_is (c.in-Ok.ensures.put told ps before))
 
 pub returns-in-Ok-note-clause-finished : goal.returns-in-Ok-note-clause-finished
 returns-in-Ok-note-clause-finished g c = λ told packets stood.

@@ -1,0 +1,5 @@
+pub mod Walking
+pub mod Counting
+pub mod Sliding
+pub mod Keys
+pub mod Chaining

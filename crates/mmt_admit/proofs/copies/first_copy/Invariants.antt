@@ -1,0 +1,6 @@
+use Rattle.std.proofs.Common.{◌≡◌, None}
+use Rattle.mmt_model.specs.Admission.{fault_of_copy, first_below}
+use Rattle.mmt_admit.proofs.copies.first_copy.Given as goal
+
+abbrev pub invariant-loop-c : goal.invariant-loop-c
+invariant-loop-c l = first_below (fault_of_copy l.cast) l.c ≡ None

@@ -1,0 +1,98 @@
+//! Admission of a cast.
+
+ghost use Rattle.std.specs.Prelude.{◌≡◌, Some, None, IfErr, IfOk, OnOk};
+ghost use Rattle.mmt_admit.specs.Faults.{as_fault, fault_value, IsReadable};
+ghost use Rattle.mmt_model.specs.Admission.{fault};
+
+use crate::answers::NotAdmitted;
+use crate::copies::{first_copy, first_live};
+use crate::gaps::first_gap;
+use crate::loads::first_load;
+use crate::numbers::first_number;
+use crate::params::params_fault;
+use crate::rising::first_key;
+use crate::starts::{first_mpu, start_fault};
+use crate::timely::first_unit;
+use mmt_model::Cast;
+
+/// A cast without a fault, which it lends.
+#[derive(Clone, Copy, Debug)]
+pub struct Admitted<'a> {
+    cast: &'a Cast,
+    ghost admitted: { fault cast.now ≡ None },
+}
+
+impl<'a> Admitted<'a> {
+    ghost use Rattle.std.specs.Prelude.{◌≡◌, None};
+    ghost use Rattle.mmt_model.specs.Admission.{fault};
+
+    /// The cast.
+    pub fn cast(&self) -> &'a Cast
+        ensures same { result.now ≡ self.now.cast.now }
+        ensures admitted { fault result.now ≡ None }
+    {
+        self.cast
+    }
+}
+
+/// The first fault of a cast.
+fn first_fault(cast: &Cast) -> Option<NotAdmitted>
+    requires { IsReadable cast.now }
+    ensures { as_fault result ≡ fault cast.now }
+{
+    let packets = cast.packets.as_slice();
+    let params = params_fault(&cast.params);
+    if params.is_some() {
+        return params;
+    }
+    let gap = first_gap(packets);
+    if gap.is_some() {
+        return gap;
+    }
+    let number = first_number(packets);
+    if number.is_some() {
+        return number;
+    }
+    let unit = first_unit(cast);
+    if unit.is_some() {
+        return unit;
+    }
+    let copy = first_copy(cast);
+    if copy.is_some() {
+        return copy;
+    }
+    let load = first_load(cast);
+    if load.is_some() {
+        return load;
+    }
+    let live = first_live(cast);
+    if live.is_some() {
+        return live;
+    }
+    let key = first_key(cast);
+    if key.is_some() {
+        return key;
+    }
+    let start = start_fault(packets);
+    if start.is_some() {
+        return start;
+    }
+    first_mpu(cast)
+}
+
+/// Admits a cast, or tells its first fault. It takes no memory.
+///
+/// # Errors
+///
+/// The first fault, exactly where there is one.
+pub fn admit(cast: &Cast) -> Result<Admitted<'_>, NotAdmitted>
+    requires { IsReadable cast.now }
+    ensures admitted { IfOk result (λ a. a.cast.now ≡ cast.now) }
+    ensures none { OnOk result (fault cast.now ≡ None) }
+    ensures refused { IfErr result (λ e. fault cast.now ≡ Some (fault_value e)) }
+{
+    match first_fault(cast) {
+        Some(found) => Err(found),
+        None => Ok(Admitted { cast }),
+    }
+}

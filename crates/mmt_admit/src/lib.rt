@@ -1,0 +1,18 @@
+//! Admission: the first fault of a cast, found in a bounded number of walks over its packets, units and
+//! MPUs, without memory.
+#![tactic(auto)]
+
+mod admitting;
+mod answers;
+mod copies;
+mod gaps;
+mod loads;
+mod numbers;
+mod params;
+mod reads;
+mod rising;
+mod starts;
+mod timely;
+
+pub use admitting::{Admitted, admit};
+pub use answers::{NotAdmitted, Rule};

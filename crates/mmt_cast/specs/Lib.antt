@@ -1,0 +1,12 @@
+pub mod Cutting
+pub mod Placing
+pub mod Tables
+pub mod SentTables
+pub mod Sending
+pub mod Casting
+pub mod Refusing
+pub mod Headline
+pub mod PlanOne
+pub mod Examples
+pub mod Right
+pub mod TablesRead

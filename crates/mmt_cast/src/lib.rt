@@ -1,0 +1,50 @@
+//! The cast of a programme: the packets of each signal and unit, cut or gathered, and that the cast of a
+//! right programme goes with what it is to carry, so that the delivery theorem holds of it.
+#![tactic(auto)]
+
+ghost use Rattle.mmt_cast.specs.Examples.{AreExamples};
+ghost use Rattle.mmt_cast.specs.PlanOne.{ComputesPlanOne, AreRefusedPlans};
+ghost use Rattle.mmt_cast.specs.Right.{CastIsRight};
+ghost use Rattle.mmt_cast.specs.TablesRead.{TablesAreRead, TablesAreSpelled};
+ghost use Rattle.mmt_cast.specs.Headline.{ProgrammesAreDelivered};
+
+use mmt_delivery::delivery_theorem;
+
+/// The cast of the worked plan has its packets, units, MPU and table copy.
+pub fn plan_one_computes()
+    ensures { ComputesPlanOne }
+{}
+
+/// Plans like the worked one whose casts are not admitted, each with its first fault.
+pub fn refused_plans_compute()
+    ensures { AreRefusedPlans }
+{}
+
+/// A small plan is cut and gathered as it should be, and the worked plan meets what the theorems ask of a
+/// programme.
+pub fn examples_compute()
+    ensures { AreExamples }
+{}
+
+/// The cast of a right programme goes with what it is to carry.
+pub fn cast_is_right()
+    ensures { CastIsRight }
+{}
+
+/// In a table that is sent a receiver reads exactly the entries of the MPUs that it names.
+pub fn tables_are_read()
+    ensures { TablesAreRead }
+{}
+
+/// A table that is sent has as many bytes as the cast says, and is read back.
+pub fn tables_are_spelled()
+    ensures { TablesAreSpelled }
+{}
+
+/// Of a right programme whose cast is admitted, and of any near delivery of the cast: what a receiver
+/// with the programme's window and delay and with at least its bound hands out are the expected units.
+pub fn programmes_are_delivered()
+    ensures { ProgrammesAreDelivered }
+{
+    delivery_theorem();
+}

@@ -1,0 +1,29 @@
+-- The messages of the worked plan, computed.
+use Rattle.std.proofs.Common.{refl}
+use Rattle.mmt_base.specs.Ticks.{due_of}
+use Rattle.mmt_cast.specs.Casting.{cast_of, copies_as_sent, copy_as_sent, count_of_id, due_of_placed, greatest, has_table, has_unit, is_sent_before, least, mpu_as_sent, numbered_after, place_of_mpu, planned, span_of, span_of_table, span_of_unit, time_of_unit, unit_as_sent, with_number}
+use Rattle.mmt_cast.specs.Cutting.{fitting, gathered, part_length}
+use Rattle.mmt_cast.specs.Placing.{all_mpus, all_units, entry_of_mpu, flat_map_from, map_from, mpus_of, units_of}
+use Rattle.mmt_cast.specs.Sending.{candidates, carried, group_size, header_length, id_of, is_short, may_join, packet_count, packet_of, packets_of, payload_length, rap_of, sending_of_signal, sending_of_units, sendings, sendings_of_units, tick_of_packet}
+use Rattle.mmt_cast.specs.Tables.{asset_length, descriptors_length, extended_length, is_named_by, named_of_asset, table_length, table_message_length}
+use Rattle.mmt_model.specs.Carrying.{named_from_of, numbers}
+use Rattle.mmt_model.specs.Counts.{member}
+use Rattle.mmt_model.specs.Entries.{last_due}
+use Rattle.mmt_model.specs.Handing.{precedes, time_for}
+use Rattle.mmt_model.specs.Sorted.{insert_by, sort_by}
+use Rattle.mmt_times.specs.Times.{in_range, time_at, unit_times}
+use Rattle.mmt_cast.specs.SentTables.{extended_of_mpu, sent_asset, sent_descriptors, sent_table, stamps_of_21}
+use Rattle.mmt_fields.specs.Reading.{big_endian}
+use Rattle.mmt_mpt.specs.Asset.{asset_bytes, head_bytes}
+use Rattle.mmt_mpt.specs.Descriptor.{descriptor_bytes, descriptors_bytes, length_width}
+use Rattle.mmt_mpt.specs.Location.{location_bytes}
+use Rattle.mmt_mpt.specs.Table.{mpt_inner, mpt_spelling}
+use Rattle.mmt_times.specs.Extended.{au_bytes, extended_bytes, mpu_bytes}
+use Rattle.mmt_times.specs.Stamps.{pair_bytes, stamps_bytes}
+use Rattle.mmt_messages.specs.Sent.{MessagesOfPlanOne, message_bytes, message_of_signal, tables_before}
+use Rattle.mmt_cast.specs.Right.{signal_at}
+use Rattle.mmt_sig.specs.Message.{hrbm_bytes, message_spelling, pa_bytes, pa_inner}
+
+pub computed : MessagesOfPlanOne
+unfolding due_of cast_of copies_as_sent copy_as_sent count_of_id due_of_placed greatest has_table has_unit is_sent_before least mpu_as_sent numbered_after place_of_mpu planned span_of span_of_table span_of_unit time_of_unit unit_as_sent with_number fitting gathered part_length all_mpus all_units entry_of_mpu flat_map_from map_from mpus_of units_of candidates carried group_size header_length id_of is_short may_join packet_count packet_of packets_of payload_length rap_of sending_of_signal sending_of_units sendings sendings_of_units tick_of_packet asset_length descriptors_length extended_length is_named_by named_of_asset table_length table_message_length named_from_of numbers member last_due precedes time_for insert_by sort_by in_range time_at unit_times stamps_of_21 extended_of_mpu sent_descriptors sent_asset sent_table mpt_inner mpt_spelling asset_bytes head_bytes location_bytes descriptor_bytes descriptors_bytes length_width extended_bytes mpu_bytes au_bytes stamps_bytes pair_bytes big_endian message_bytes message_of_signal tables_before signal_at hrbm_bytes message_spelling pa_bytes pa_inner
+computed = (refl, refl)

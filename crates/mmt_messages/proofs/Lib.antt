@@ -1,0 +1,4 @@
+pub mod Messages
+pub mod Headline
+pub mod Computing
+pub mod Fitting

@@ -1,0 +1,29 @@
+//! The signalling messages that are sent, and what a receiver reads in them: so the delivery theorem
+//! holds of programmes with nothing left open but their files.
+#![tactic(auto)]
+
+ghost use Rattle.mmt_messages.specs.Sent.{MessagesAreRight, MessagesOfPlanOne, PlanOneFits};
+ghost use Rattle.mmt_messages.specs.Headline.{SentIsReceived};
+
+use mmt_cast::programmes_are_delivered;
+
+/// The messages of the worked plan, byte for byte.
+pub fn plan_one_computes()
+    ensures computes { MessagesOfPlanOne }
+    ensures fits { PlanOneFits }
+{}
+
+/// The messages that are sent of a right programme are such as its cast asks for.
+pub fn messages_are_right()
+    ensures { MessagesAreRight }
+{}
+
+/// Of a right programme whose cast is admitted, and of any near delivery of the cast: what a receiver
+/// with the programme's window and delay and with at least its bound hands out, whatever its own
+/// timescale, are the expected units.
+pub fn sent_is_received()
+    ensures { SentIsReceived }
+{
+    programmes_are_delivered();
+    messages_are_right();
+}

@@ -1,0 +1,12 @@
+pub mod FileNumbers
+pub mod FlowTexts
+pub mod Lists
+pub mod Keys
+pub mod States
+pub mod Repeats
+pub mod Passes
+pub mod Fronts
+pub mod Outcomes
+pub mod PlanP1
+pub mod RightFiles
+pub mod FourCharacters

@@ -1,0 +1,16 @@
+pub mod Places
+pub mod Reading
+pub mod Members
+pub mod Aus
+pub mod Units
+pub mod Mpus
+pub mod Signals
+pub mod Flows
+pub mod Names
+pub mod Assets
+pub mod Tops
+pub mod Twice
+pub mod Wholes
+pub mod Plan
+pub mod Right
+pub mod Files

@@ -1,0 +1,131 @@
+//! What the objects of a plan ask of each other.
+
+ghost use Rattle.std.specs.Prelude.{◌≡◌, ℕ, List, Result, Ok, IfOk};
+ghost use Rattle.std.specs.List.{list_all};
+ghost use Rattle.mmt_model.specs.declared.programmes.Asset.{Asset as Track};
+ghost use Rattle.mmt_plan.specs.Reading.{IsAnswer};
+ghost use Rattle.mmt_plan.specs.Wholes.{are_ids_once, are_numbers_once, is_named, are_named, each_checked, agreeing};
+ghost use Rattle.mmt_plan.specs.declared.ends.Refusal.{Refusal as Why};
+
+use crate::ends::{PlanEnd, PlanPart, Reason};
+use crate::tops::top_spot;
+use crate::twice::first_repeat;
+use mmt_model::{Asset, Programme, Signal};
+use std::alloc::Global;
+
+/// What is checked against the assets of a plan.
+pub trait Checked {
+    /// The check of an object by its number among those of its kind.
+    ghost check_of: { List Track → ℕ → Self → Result (Unit {0}) Why };
+
+    /// The check.
+    fn check(&self, alloc: Global, assets: &[Asset], number: u32) -> Result<(), PlanEnd>
+        ensures { IsAnswer (check_of assets.now number self.now) result };
+}
+
+// That no two assets have one packet id.
+#[tactic(auto, unfolding(crate::specs::Wholes::are_ids_once))]
+fn ids(alloc: Global, assets: &[Asset]) -> Result<(), PlanEnd>
+    ensures { IsAnswer (are_ids_once assets.now) result }
+{
+    match first_repeat(alloc, assets)? {
+        None => Ok(()),
+        Some(place) => {
+            let spot = top_spot().inner(PlanPart::Asset, place);
+            Err(spot.refused(Reason::PacketIdTwice, 1).into())
+        }
+    }
+}
+
+impl Checked for Asset {
+    ghost check_of = { λ _. are_numbers_once };
+
+    // That no two of its MPUs have one number.
+    #[tactic(auto, unfolding(crate::specs::Wholes::are_numbers_once))]
+    fn check(&self, alloc: Global, _assets: &[Asset], number: u32) -> Result<(), PlanEnd> {
+        match first_repeat(alloc, self.mpus.as_slice())? {
+            None => Ok(()),
+            Some(place) => {
+                let asset = top_spot().inner(PlanPart::Asset, number);
+                let spot = asset.inner(PlanPart::Mpu, place);
+                Err(spot.refused(Reason::MpuTwice, 1).into())
+            }
+        }
+    }
+}
+
+// Whether there is an MPU at these places.
+fn is_named(assets: &[Asset], name: (u32, u32)) -> bool
+    ensures { result ≡ is_named assets.now name }
+{
+    match assets.get(name.0 as usize) {
+        Some(asset) => (name.1 as usize) < asset.mpus.len(),
+        None => false,
+    }
+}
+
+// Whether there is an MPU at each of these places.
+fn are_all_named(assets: &[Asset], names: &[(u32, u32)]) -> bool
+    ensures { result ≡ list_all (is_named assets.now) names.now }
+{
+    names.iter().all(|name| is_named(assets, *name))
+}
+
+impl Checked for Signal {
+    ghost check_of = { are_named };
+
+    // That there is each MPU that it names.
+    #[tactic(auto, unfolding(crate::specs::Wholes::are_named))]
+    fn check(&self, _alloc: Global, assets: &[Asset], number: u32) -> Result<(), PlanEnd> {
+        match self {
+            Signal::Parameters { .. } => Ok(()),
+            Signal::Table { names, .. } => {
+                if are_all_named(assets, names.as_slice()) {
+                    Ok(())
+                } else {
+                    let spot = top_spot().inner(PlanPart::Signal, number);
+                    Err(spot.refused(Reason::NoSuchMpu, 3).into())
+                }
+            }
+        }
+    }
+}
+
+// The checks of all objects of a kind, in order.
+fn check_each<T: Checked>(alloc: Global, items: &[T], assets: &[Asset]) -> Result<(), PlanEnd>
+    ensures { IsAnswer (each_checked (T.check_of assets.now) 0 items.now) result }
+{
+    let mut number = 0u32;
+    for item in items {
+        match item.check(alloc, assets, number) {
+            Ok(()) => {}
+            Err(end) => return Err(end),
+        }
+        number = match number.checked_add(1) {
+            Some(next) => next,
+            // No plan has that many.
+            None => return Err(PlanEnd::OutOfMemory),
+        };
+    }
+    Ok(())
+}
+
+/// The programme, where its objects are what they ask of each other.
+#[tactic(auto, unfolding(crate::specs::Wholes::agreeing))]
+pub fn agreeing(alloc: Global, programme: Programme) -> Result<Programme, PlanEnd>
+    ensures value { IsAnswer (agreeing programme) result }
+    ensures right { IfOk result (λ p. (p ≡ programme) × (agreeing p ≡ Ok p)) }
+{
+    ids(alloc, programme.assets.as_slice())?;
+    check_each(
+        alloc,
+        programme.assets.as_slice(),
+        programme.assets.as_slice(),
+    )?;
+    check_each(
+        alloc,
+        programme.signals.as_slice(),
+        programme.assets.as_slice(),
+    )?;
+    Ok(programme)
+}
