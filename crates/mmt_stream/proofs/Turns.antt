@@ -96,18 +96,18 @@ module _ {C : Type 0} (m : Meaning) (stands : C → List Packet → Type 0) (lim
 
   -- a packet was cut off, and given to the consumer
   pub turn_pushed : (now next : List Event) (unread after rest : List ℕ) (used : ℕ) (old new : Cutting) (consumer other : C) (gathered gathered' : Output)
-      → (t : Turn m stands limit start now left unread rest old consumer gathered) → (n : NextPacket t.taken rest used t.packets new)
-      → stands other (t.packets ++ n.packet ∷ []) → Emits now next gathered gathered' (m.so_far t.packets) (m.so_far (t.packets ++ n.packet ∷ [])) → after ≡ unread
+      → (t : Turn m stands limit start now left unread rest old consumer gathered) → (packet : Packet) → StandsFor (t.taken ++ take used rest) (t.packets ++ packet ∷ []) new
+      → stands other (t.packets ++ packet ∷ []) → Emits now next gathered gathered' (m.so_far t.packets) (m.so_far (t.packets ++ packet ∷ [])) → after ≡ unread
       → Turn m stands limit start next left after (drop used rest) new other gathered'
-  turn_pushed now next unread after rest used old new consumer other gathered gathered' t n stood e kept = record {
+  turn_pushed now next unread after rest used old new consumer other gathered gathered' t packet cut stood e kept = record {
     events = t.events ++ e.events;
     passed = passed_more m start now next left unread after t.events e.events t.passed e.history e.outputs kept;
     few = rw (read_same t.events e.events e.outputs) t.few;
     going = going_more t.events e.events e.outputs t.going;
     taken = t.taken ++ take used rest;
-    packets = t.packets ++ n.packet ∷ [];
+    packets = t.packets ++ packet ∷ [];
     read = read_same t.events e.events e.outputs ∙ read_on t.taken rest (bytes_read t.events) used t.read;
-    cut = n.stands;
+    cut = cut;
     stood = stood;
     output = all_out t.events e.events gathered' _ (e.output (output_of t.events) t.output);
   }

@@ -50,16 +50,26 @@ fn serve<P: Port, C: Consumer<P>>(
     let mut consumer = consumer;
     let mut rest = piece;
     'packets: loop {
-        match cutter.feed(rest) {
-            Fed::Taken => return Served::On(consumer),
-            Fed::Sync { place } => return Served::Lost { consumer, place },
-            Fed::Packet { used } => {
-                match consumer.push(port, cutter.place(), cutter.packet()) {
+        match cutter.lend(rest) {
+            Some(tlv) => {
+                let place = cutter.place() - tlv.len() as u64;
+                match consumer.push(port, place, tlv) {
                     Ok(next) => consumer = next,
                     Err(reason) => return Served::Halted(reason),
                 }
-                rest = &rest[used..];
+                rest = &rest[tlv.len()..];
             }
+            None => match cutter.feed(rest) {
+                Fed::Taken => return Served::On(consumer),
+                Fed::Sync { place } => return Served::Lost { consumer, place },
+                Fed::Packet { used } => {
+                    match consumer.push(port, cutter.place(), cutter.packet()) {
+                        Ok(next) => consumer = next,
+                        Err(reason) => return Served::Halted(reason),
+                    }
+                    rest = &rest[used..];
+                }
+            },
         }
     }
 }

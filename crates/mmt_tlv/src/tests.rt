@@ -76,3 +76,22 @@ fn a_cutter_tells_where_no_packet_begins_and_where_one_is_cut(rt: HostRuntime) -
     assert_eq!(rt; cutter.finish(), CutEnd::Whole);
     Ok(())
 }
+
+#[test]
+fn a_packet_that_lies_whole_in_a_piece_is_lent(rt: HostRuntime) -> Result<(), Fail> {
+    let mut cutter = Cutter::new(rt.alloc())?;
+    assert_eq!(rt; cutter.lend(&THREE), Some(&THREE[..4]));
+    assert_eq!(rt; cutter.place(), 4);
+    // One whose end is missing is not lent, nor one of which the cutter holds some bytes.
+    assert_eq!(rt; cutter.lend(&THREE[4..10]), None);
+    assert_eq!(rt; cutter.feed(&THREE[4..10]), Fed::Taken);
+    assert_eq!(rt; cutter.lend(&THREE[10..]), None);
+    assert_eq!(rt; cutter.feed(&THREE[10..]), Fed::Packet { used: 1 });
+    assert_eq!(rt; cutter.place(), 4);
+    assert_eq!(rt; cutter.lend(&THREE[11..]), Some(&THREE[11..]));
+    assert_eq!(rt; cutter.place(), 16);
+    assert_eq!(rt; cutter.lend(&[0x47, 0, 0, 0]), None);
+    assert_eq!(rt; cutter.feed(&[0x47, 0, 0, 0]), Fed::Sync { place: 16 });
+    assert_eq!(rt; cutter.lend(&THREE), None);
+    Ok(())
+}
