@@ -52,9 +52,8 @@ fn ended(rt: &HostRuntime, status: Status) -> ExitCode {
     ExitCode::from(status.number())
 }
 
-// Does what the words ask, over the streams of the system.
-fn answered(rt: &HostRuntime, words: &[String]) -> Status {
-    let mut port = RealPort::new(rt.stdin(), rt.stdout(), rt.stderr());
+// Prints the answer to `--help` or `--version`, or does what the words ask.
+fn done<P: Port>(rt: &HostRuntime, words: &[String], port: &mut P) -> Status {
     if let Some(text) = help::answer_to(words) {
         return match port.write(text.as_bytes()) {
             Ok(()) => Status::Done,
@@ -62,7 +61,21 @@ fn answered(rt: &HostRuntime, words: &[String]) -> Status {
         };
     }
     let mut shelf = MemoryShelf::new(rt.alloc(), Vec::new(rt.alloc()));
-    run(rt.alloc(), words, &mut port, &mut shelf)
+    run(rt.alloc(), words, port, &mut shelf)
+}
+
+// Does what the words ask, over the streams of the system. What is gathered goes out at the end.
+fn answered(rt: &HostRuntime, words: &[String]) -> Status {
+    let (input, output, notes) = (rt.stdin(), rt.stdout(), rt.stderr());
+    let mut port = match RealPort::new(rt.alloc(), input, output, notes) {
+        Ok(port) => port,
+        Err(_) => return Status::OutOfMemory,
+    };
+    let status = done(rt, words, &mut port);
+    match port.close() {
+        Ok(()) => status,
+        Err(_) => Status::WriteFault,
+    }
 }
 
 fn main(rt: HostRuntime) -> ExitCode {

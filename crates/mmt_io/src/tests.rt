@@ -117,21 +117,51 @@ fn a_real_port_passes_bytes_and_tells_failures(rt: HostRuntime) -> Result<(), Fa
     };
     let mut output = Vec::new(rt.alloc());
     let mut notes = [0; 3];
-    let mut port = RealPort::new(input, &mut output, &mut notes[..]);
+    let mut port = RealPort::new(rt.alloc(), input, &mut output, &mut notes[..])?;
     let mut buf = [0; 3];
-    assert_eq!(rt; read(&mut port, &mut buf), Ok(2));
-    assert_eq!(rt; &buf[..2], b"12".as_slice());
-    assert_eq!(rt; read(&mut port, &mut buf), Err(Fault));
     assert_eq!(rt; write(&mut port, b"ab"), Ok(()));
     assert_eq!(rt; write(&mut port, b""), Ok(()));
     assert_eq!(rt; note(&mut port, b"xyz"), Ok(()));
-    assert_eq!(rt;
-        note(&mut port, b"!"),
-        Err(Fault),
-        "a writer that takes no byte"
-    );
+    assert_eq!(rt; read(&mut port, &mut buf), Ok(2));
+    assert_eq!(rt; &buf[..2], b"12".as_slice());
+    assert_eq!(rt; read(&mut port, &mut buf), Err(Fault));
+    assert_eq!(rt; write(&mut port, b"c"), Ok(()));
+    assert_eq!(rt; port.close(), Ok(()));
     drop(port);
-    assert_eq!(rt; output.as_slice(), b"ab".as_slice());
+    assert_eq!(rt; output.as_slice(), b"abc".as_slice());
     assert_eq!(rt; &notes, b"xyz");
+    Ok(())
+}
+
+#[test]
+fn gathered_bytes_that_fail_are_told_by_the_next_call(rt: HostRuntime) -> Result<(), Fail> {
+    let mut notes = [0; 3];
+    let mut port = RealPort::new(rt.alloc(), b"12345".as_slice(), io::sink(), &mut notes[..])?;
+    let mut buf = [0; 3];
+    assert_eq!(rt; note(&mut port, b"xyz!"), Ok(()), "it is gathered");
+    assert_eq!(rt; read(&mut port, &mut buf), Ok(3), "the input is there");
+    assert_eq!(rt; write(&mut port, b"a"), Err(Fault), "the notes failed");
+    assert_eq!(rt; note(&mut port, b"?"), Err(Fault));
+    assert_eq!(rt; port.close(), Err(Fault), "a writer that takes no byte");
+    drop(port);
+    assert_eq!(rt; &notes, b"xyz");
+    Ok(())
+}
+
+#[test]
+fn a_piece_longer_than_the_buffer_goes_out_after_what_came_before(
+    rt: HostRuntime,
+) -> Result<(), Fail> {
+    let mut output = Vec::new(rt.alloc());
+    let mut port = RealPort::new(rt.alloc(), b"".as_slice(), &mut output, io::sink())?;
+    let long = vec![in rt.alloc(); 7u8; 65_537]?;
+    assert_eq!(rt; write(&mut port, b"ab"), Ok(()));
+    assert_eq!(rt; write(&mut port, &long), Ok(()));
+    assert_eq!(rt; write(&mut port, b"c"), Ok(()));
+    assert_eq!(rt; port.close(), Ok(()));
+    drop(port);
+    assert_eq!(rt; output.len(), 65_540);
+    assert_eq!(rt; &output[..3], b"ab\x07".as_slice());
+    assert_eq!(rt; output.last(), Some(&b'c'));
     Ok(())
 }
