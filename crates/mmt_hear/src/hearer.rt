@@ -11,7 +11,6 @@ use mmt_ctx::{Contexts, CtxWhy};
 use mmt_ip::{Ip6Header, IpWhy, read_ip6udp};
 use mmt_model::FlowChoice;
 use mmt_packet::{Packet, PacketWhy, read_packet};
-use mmt_tlv::{TlvRead, read_tlv};
 use std::alloc::Global;
 use std::marker::Model;
 
@@ -88,10 +87,9 @@ pub fn opened(tlv: &[u8]) -> (u8, &[u8])
     ensures len { 4 + length result.1.now ≡ length tlv.now }
     ensures packet { (packet : Tlv) → Fits packet → tlv.now ≡ spelling packet → packet ≡ record { kind = result.0; body = result.1.now } }
 {
-    match read_tlv(tlv) {
-        TlvRead::Whole { tlv, used: _ } => (tlv.kind, tlv.body),
-        TlvRead::Short => unreachable!(),
-        TlvRead::Sync => unreachable!(),
+    match tlv {
+        [_, kind, _, _, body @ ..] => (*kind, body),
+        _ => unreachable!(),
     }
 }
 

@@ -1,5 +1,5 @@
 -- The order of the index.
-use Rattle.std.proofs.Common.{◌≡◌, ℕ, Bool, true, false, ◌||◌, ◌&&◌, ◌==◌, nat_lt, not, cond, List, [], ◌∷◌, refl, ap, ap₂, sym, ◌∙◌, arith, filter, subst, ◌⊎◌, inl, inr}
+use Rattle.std.proofs.Common.{◌≡◌, ℕ, Bool, true, false, ◌||◌, ◌&&◌, ◌==◌, nat_lt, not, cond, List, [], ◌∷◌, refl, ap, ap₂, sym, ◌∙◌, arith, filter, subst, ◌⊎◌, inl, inr, ◌<◌, length, slice_index}
 use Rattle.std.specs.List.{AllByRecursion, list_any}
 use Rattle.std.specs.List.Sorted.{IsStrictlySortedBy}
 use Rattle.std.specs.Ordering.{is_eq, is_lt, nat_cmp, ordering_then}
@@ -8,7 +8,7 @@ use Rattle.std.specs.BTreeMap.Range.{range_contains}
 use Rattle.std.specs.declared.cmp.Ordering.{Ordering}
 use Rattle.std.specs.declared.cmp.Ordering.TheVariants.{Less, Equal, Greater}
 use Rattle.std.specs.declared.ops.Bound.TheVariants.{Excluded, Unbounded}
-use Rattle.std.proofs.lemmas.Bool.{eq-eqb, le-ltb}
+use Rattle.std.proofs.lemmas.Bool.{eq-eqb, le-ltb, lt-ltb}
 use Rattle.std.proofs.lemmas.Map.Lookups.{exact_bytes}
 use Rattle.mmt_model.specs.Handing.{precedes}
 use Rattle.mmt_pool.specs.declared.types.Span.{Span}
@@ -64,18 +64,18 @@ apart q r = by_numbers (slice_cmp nat_cmp q.numbers r.numbers) refl
     by_numbers Equal e = by_span e (either q.span r.span)
     by_numbers Greater e = Other (rw e refl) (differ Greater e (λ y. cc))
 
--- what is in the index is in the part of it behind a place, where it stands there
-pub in-range : (from q : Due) (ds : List Due) → order from q ≡ Less → IsIn ds q → IsIn (filter (range_contains order (Excluded from) Unbounded) ds) q
-in-range from q [] l h = h
-in-range from q (d ∷ ds) l h = go (apart q d) (range_contains order (Excluded from) Unbounded d) refl (in-range from q ds l) h
+-- what is in the index is in each part of it that has it
+pub in-part : (p : Due → Bool) (q : Due) (ds : List Due) → p q ≡ true → IsIn ds q → IsIn (filter p ds) q
+in-part p q [] l h = h
+in-part p q (d ∷ ds) l h = go (apart q d) (p d) refl (in-part p q ds l) h
   where
-    here : q ≡ d → is_lt (order from d) ≡ true
-    here s = rw (← s, l) refl
+    here : q ≡ d → p d ≡ true
+    here s = rw (← s) l
 
-    go : Apart q d → (b : Bool) → range_contains order (Excluded from) Unbounded d ≡ b → (IsIn ds q → IsIn (filter (range_contains order (Excluded from) Unbounded) ds) q) → (is_eq (order q d) || list_any (λ e. is_eq (order q e)) ds) ≡ true
-        → list_any (λ e. is_eq (order q e)) (cond b (d ∷ filter (range_contains order (Excluded from) Unbounded) ds) (filter (range_contains order (Excluded from) Unbounded) ds)) ≡ true
+    go : Apart q d → (b : Bool) → p d ≡ b → (IsIn ds q → IsIn (filter p ds) q) → (is_eq (order q d) || list_any (λ e. is_eq (order q e)) ds) ≡ true
+        → list_any (λ e. is_eq (order q e)) (cond b (d ∷ filter p ds) (filter p ds)) ≡ true
     go (Same e s) true r ih h = rw e refl
-    go (Same e s) false r ih h = absurd (let g = here s in let f : (is_lt (order from d) && true) ≡ false = r in let x = rw g at f in cc)
+    go (Same e s) false r ih h = absurd (let g = here s in let x = rw r at g in cc)
     go (Other e s) true r ih h = rw e (ih (rw e at h))
     go (Other e s) false r ih h = ih (rw e at h)
 
@@ -142,6 +142,13 @@ precedes-less (x ∷ xs) (y ∷ ys) h = go (nat_lt x y) (x == y) h (λ k. preced
 
 pub before-less : (q r : Due) → precedes q.numbers r.numbers ≡ true → order q r ≡ Less
 before-less q r h = rw (precedes-less q.numbers r.numbers h) refl
+
+-- numbers of which the first is less precede others
+pub first-precedes : (xs ys : List ℕ) → 0 < length xs → slice_index xs 0 < slice_index ys 0 → precedes xs ys ≡ true
+unfolding precedes
+first-precedes [] ys some l = absurd (omega arith)
+first-precedes (x ∷ xs) [] some l = absurd (omega arith)
+first-precedes (x ∷ xs) (y ∷ ys) some l = rw (lt-ltb x y l) refl
 
 -- one at or behind another does not stand before it
 pub not-before : (head q : Due) → (q ≡ head) ⊎ (order head q ≡ Less) → precedes q.numbers head.numbers ≡ true → ⊥

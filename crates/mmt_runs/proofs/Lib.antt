@@ -20,5 +20,6 @@ pub mod Spans
 pub mod DueOrder
 pub mod Indexing
 pub mod Naming
+pub mod DueTimes
 pub mod Sought
 pub mod Handed

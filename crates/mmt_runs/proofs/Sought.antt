@@ -1,9 +1,9 @@
 -- The first of the units that are looked for, from packet to packet.
-use Rattle.std.proofs.Common.{◌≡◌, ℕ, ◌≤◌, ◌<◌, Bool, true, false, ◌&&◌, ◌||◌, ◌==◌, List, [], ◌∷◌, ◌⊎◌, inl, inr, ⊎_elim, map, cond, refl, ap, sym, ◌∙◌, arith, subst, Option, Some, None, filter, slice_index}
+use Rattle.std.proofs.Common.{◌≡◌, ℕ, ◌≤◌, ◌<◌, Bool, true, false, ◌&&◌, ◌||◌, ◌==◌, List, [], ◌∷◌, ◌⊎◌, inl, inr, ⊎_elim, map, cond, refl, ap, sym, ◌∙◌, arith, subst, Option, Some, None, filter, slice_index, length}
 use Rattle.std.specs.List.{flat_map}
 use Rattle.std.specs.BTreeMap.Range.{range_contains}
 use Rattle.std.specs.List.Sorted.{IsStrictlySortedBy}
-use Rattle.std.specs.declared.cmp.Ordering.TheVariants.{Less}
+use Rattle.std.specs.declared.cmp.Ordering.TheVariants.{Less, Greater}
 use Rattle.std.specs.declared.ops.Bound.TheVariants.{Excluded, Unbounded}
 use Rattle.std.proofs.lemmas.Bool.Decides.{nat_tests}
 use Rattle.std.proofs.lemmas.Bool.{and_parts, eqb-true, cases_lt}
@@ -22,11 +22,15 @@ use Rattle.mmt_runs.specs.Order.{stands_after, numbers_of}
 use Rattle.mmt_runs.specs.Reading.{heard}
 use Rattle.mmt_runs.specs.Leading.{first, rest_after}
 use Rattle.mmt_runs.specs.Choosing.{is_sought, best, named_at, named_in}
-use Rattle.mmt_runs.specs.Seeking.{Among, named_of, IsBehind, IsNamed, Passes, PassesAt, IsPast, IsRest}
+use Rattle.mmt_runs.specs.Seeking.{Among, named_of, IsBehind, IsNamed, Passes, PassesAt, IsPast, IsRest, StandsBefore, LieIn}
+use Rattle.mmt_runs.specs.declared.stretch.Stretch.{Stretch}
+use Rattle.mmt_runs.specs.Stretch.{HoldsDue}
+use Rattle.mmt_runs.specs.contracts.index.DueOrd.TheImpl.Laws.{total-law}
+use Rattle.std.specs.Ordering.{is_gt, is_lt}
 use Rattle.mmt_runs.specs.Told.{IsTold, Tracked}
 use Rattle.mmt_runs.proofs.FirstFound.{Found, best_found, false_of, itself, found_first}
 use Rattle.mmt_model.proofs.Preceding.{before-through}
-use Rattle.mmt_runs.proofs.DueOrder.{in-range, in-all, sorted-part, before-less, not-before, first-least, first-or}
+use Rattle.mmt_runs.proofs.DueOrder.{in-part, first-precedes, in-all, sorted-part, before-less, not-before, first-least, first-or}
 use Rattle.mmt_runs.proofs.LeastDue.{named_kept}
 use Rattle.mmt_runs.proofs.Naming.{among_append, among_left, among_right, named_indexed, named_begun}
 
@@ -94,16 +98,83 @@ pub sought_after : (after : Option UnitOrder) (from to : ℕ) (d : Presentation)
 unfolding is_sought
 sought_after after from to d h = (and_parts (is_passed (low (due_of d.time)) from to) (stands_after after d) h).1
 
--- the part of the index behind a place has each unit that stands after it
-pub rest_behind : (after : UnitOrder) (from : Due) (index rest : List Due) → from.numbers ≡ numbers_of after → IsStrictlySortedBy order index → rest ≡ filter (range_contains order (Excluded from) Unbounded) index → IsRest index (Some after) rest
+-- what stands after a place lies behind it in the index
+behind-key : (after : UnitOrder) (key q : Due) (d : Presentation) → key.numbers ≡ numbers_of after → order_numbers d ≡ q.numbers → stands_after (Some after) d ≡ true → range_contains order (Excluded key) Unbounded q ≡ true
 unfolding stands_after
-rest_behind after from index rest n s e = record {
-  ordered = rw e (sorted-part (range_contains order (Excluded from) Unbounded) index s);
-  has = λ q d h m t. rw e (in-range from q index (before-less from q (rw (n, ← m) t)) h);
+behind-key after key q d n m t = rw (before-less key q (rw (n, ← m) t)) refl
+
+-- the part of the index behind a place has each unit that stands after it
+pub rest_behind : (after : UnitOrder) (key : Due) (from to : ℕ) (index rest : List Due) → key.numbers ≡ numbers_of after → IsStrictlySortedBy order index → rest ≡ filter (range_contains order (Excluded key) Unbounded) index → IsRest index (Some after) from to rest
+rest_behind after key from to index rest n s e = record {
+  ordered = rw e (sorted-part (range_contains order (Excluded key) Unbounded) index s);
+  has = λ q d h m t. rw e (in-part (range_contains order (Excluded key) Unbounded) q index (behind-key after key q d n m (sought_after (Some after) from to d t)) h);
 }
 
-pub rest_all : (index rest : List Due) → IsStrictlySortedBy order index → rest ≡ filter (range_contains order Unbounded Unbounded) index → IsRest index None rest
-rest_all index rest s e = record { ordered = rw e (sorted-part (range_contains order Unbounded Unbounded) index s); has = λ q d h m t. rw e (in-all q index h) }
+pub rest_all : (from to : ℕ) (index rest : List Due) → IsStrictlySortedBy order index → rest ≡ filter (range_contains order Unbounded Unbounded) index → IsRest index None from to rest
+rest_all from to index rest s e = record { ordered = rw e (sorted-part (range_contains order Unbounded Unbounded) index s); has = λ q d h m t. rw e (in-all q index h) }
+
+-- ---- the stretch of time in which units are due
+
+sought_passed : (after : Option UnitOrder) (from to : ℕ) (d : Presentation) → is_sought after from to d ≡ true → is_passed (low (due_of d.time)) from to ≡ true
+unfolding is_sought
+sought_passed after from to d h = (and_parts (is_passed (low (due_of d.time)) from to) (stands_after after d) h).0
+
+some_numbers : (d : Presentation) → 0 < length (order_numbers d)
+unfolding order_numbers
+some_numbers d = omega arith
+
+-- a place of a time stands before each unit that is later
+pub time-less : (key q : Due) (d : Presentation) (time : ℕ) → 0 < length key.numbers → slice_index key.numbers 0 ≡ time → order_numbers d ≡ q.numbers → time < d.time → order key q ≡ Less
+time-less key q d time some is m l = before-less key q (first-precedes key.numbers q.numbers some (omega (arith, is, l, first_number d q.numbers m)))
+
+-- and after each unit that is earlier
+pub less-time : (key q : Due) (d : Presentation) → order_numbers d ≡ q.numbers → d.time < slice_index key.numbers 0 → order q key ≡ Less
+less-time key q d m l = before-less q key (first-precedes q.numbers key.numbers (subst (λ ns. 0 < length ns) m (some_numbers d)) (omega (arith, l, first_number d q.numbers m)))
+
+pub starts_after : (after : UnitOrder) (time : ℕ) (key : Due) → key.numbers ≡ numbers_of after → StandsBefore (Some after) time key
+unfolding stands_after
+starts_after after time key n = λ q d m t l. before-less key q (rw (n, ← m) t)
+
+pub starts_at : (after : Option UnitOrder) (time : ℕ) (key : Due) → 0 < length key.numbers → slice_index key.numbers 0 ≡ time → StandsBefore after time key
+starts_at after time key some is = λ q d m t l. time-less key q d time some is m l
+
+pub some_order : (o : UnitOrder) (ns : List ℕ) → ns ≡ numbers_of o → 0 < length ns
+unfolding numbers_of
+some_order o ns e = rw e (omega arith)
+
+-- what stands before a place has it behind itself
+turned : (p q : Due) → order q p ≡ Less → order p q ≡ Greater
+turned p q l = let a = total-law.antisymm p q in rw l at a
+
+-- the least and the greatest place of the index have the least and the greatest time
+pub at_least : (least q : Due) (d : Presentation) → is_gt (order least q) ≡ false → order_numbers d ≡ q.numbers → slice_index least.numbers 0 ≤ d.time
+at_least least q d h m = elim (cases_lt d.time (slice_index least.numbers 0)) [
+  | inl lt ↦ absurd (let l = less-time least q d m lt in let g = turned least q l in let n = rw g at h in cc)
+  | inr ge ↦ ge
+]
+
+pub at_most : (greatest q : Due) (d : Presentation) → 0 < length greatest.numbers → is_lt (order greatest q) ≡ false → order_numbers d ≡ q.numbers → d.time ≤ slice_index greatest.numbers 0
+at_most greatest q d some h m = elim (cases_lt (slice_index greatest.numbers 0) d.time) [
+  | inl lt ↦ absurd (let l = time-less greatest q d (slice_index greatest.numbers 0) some refl m lt in let n = rw l at h in cc)
+  | inr ge ↦ ge
+]
+
+-- all units of the index that are due lie in a stretch that holds what is due from its least time to its greatest
+pub lies_in : (index : List Due) (least greatest : Due) (from to : ℕ) (s : Stretch) → 0 < length greatest.numbers → ((q : Due) → IsIn index q → is_gt (order least q) ≡ false) → ((q : Due) → IsIn index q → is_lt (order greatest q) ≡ false)
+    → HoldsDue (slice_index least.numbers 0) (slice_index greatest.numbers 0) from to s → LieIn index from to s
+lies_in index least greatest from to s some low high holds = λ q d h m p. holds d.time (at_least least q d (low q h) m) (at_most greatest q d some (high q h) m) p
+
+-- the part of the index between two places has all units in the stretch between them
+pub rest_between : (after : Option UnitOrder) (start end : Due) (from to : ℕ) (index rest : List Due) (s : Stretch) → LieIn index from to s → StandsBefore after s.after start → slice_index end.numbers 0 ≡ s.before
+    → IsStrictlySortedBy order index → rest ≡ filter (range_contains order (Excluded start) (Excluded end)) index → IsRest index after from to rest
+rest_between after start end from to index rest s lie before is sorted e = record {
+  ordered = rw e (sorted-part (range_contains order (Excluded start) (Excluded end)) index sorted);
+  has = λ q d h m t.
+      let l = lie q d h m (sought_passed after from to d t) in
+      let a : order start q ≡ Less = before q d m (sought_after after from to d t) l.0 in
+      let b : order q end ≡ Less = less-time end q d m (omega (arith, l.1, is)) in
+      rw e (in-part (range_contains order (Excluded start) (Excluded end)) q index (rw (a, turned end q b) refl) h);
+}
 
 -- ---- all units
 
@@ -152,9 +223,9 @@ all_passed known kept after from to o order n f = found_first known kept after f
 -- ---- the walk through the index
 
 -- where the walk begins, what it leaves out is not looked for
-pub begun_walk : (known : Known) (kept : List Kept) (after : Option UnitOrder) (from to : ℕ) (index rest : List Due) (q : Due) → IsRest index after rest → IsIn index q
+pub begun_walk : (known : Known) (kept : List Kept) (after : Option UnitOrder) (from to : ℕ) (index rest : List Due) (q : Due) → IsRest index after from to rest → IsIn index q
     → (d : Presentation) → Among d (named_of known kept q.span) → order_numbers d ≡ q.numbers → is_sought after from to d ≡ true → IsIn rest q
-begun_walk known kept after from to index rest q r h d a m t = r.has q d h m (sought_after after from to d t)
+begun_walk known kept after from to index rest q r h d a m t = r.has q d h m t
 
 -- each unit at this place that is looked for is passed by, or is left
 abbrev pub IsLeft : (Presentation → Bool) → Known → List Kept → Option Presentation → List Due → Due → Type 0

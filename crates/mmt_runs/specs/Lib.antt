@@ -12,4 +12,5 @@ pub mod Media
 pub mod Following
 pub mod Choosing
 pub mod Seeking
+pub mod Stretch
 pub mod Offers

@@ -15,6 +15,7 @@ mod parts;
 mod runs;
 mod seeking;
 mod starting;
+mod stretch;
 #[cfg(test)]
 mod tests;
 

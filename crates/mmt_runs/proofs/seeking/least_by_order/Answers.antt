@@ -10,8 +10,8 @@ use Rattle.mmt_runs.proofs.seeking.least_by_order.Goals as goal
 pub loop-due-init : goal.loop-due-init
 loop-due-init c = record {
   named = tt;
-  least = λ q h d a m t. inr (subst (λ ds. IsIn ds q) (sym c.into_iter-due-iterator.ensures.into_iter_gives) (begun_walk c.args.range.now.names.now c.args.pool.now.kept (order_now c.args.range.now.after) c.args.range.now.from.0 c.args.range.now.to.0 c.args.index.now.keys c.rest_after-due-items.result q c.rest_after-due-items.ensures h d a m t));
-  ordered = subst (IsStrictlySortedBy order) (sym c.into_iter-due-iterator.ensures.into_iter_gives) c.rest_after-due-items.ensures.ordered;
+  least = λ q h d a m t. inr (subst (λ ds. IsIn ds q) (sym c.into_iter-due-iterator.ensures.into_iter_gives) (begun_walk c.args.range.now.names.now c.args.pool.now.kept (order_now c.args.range.now.after) c.args.range.now.from.0 c.args.range.now.to.0 c.args.index.now.keys c.sought_part-due-items.result q c.sought_part-due-items.ensures h d a m t));
+  ordered = subst (IsStrictlySortedBy order) (sym c.into_iter-due-iterator.ensures.into_iter_gives) c.sought_part-due-items.ensures.ordered;
 }
 
 pub returns-then-is_past-clause-named : goal.returns-then-is_past-clause-named

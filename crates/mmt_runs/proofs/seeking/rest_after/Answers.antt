@@ -1,11 +1,8 @@
-use Rattle.mmt_runs.specs.declared.index.Due.{Due}
 use Rattle.mmt_runs.proofs.Sought.{rest_behind, rest_all}
 use Rattle.mmt_runs.proofs.seeking.rest_after.Goals as goal
 
 pub returns-in-Some : goal.returns-in-Some
-returns-in-Some c =
-    let from : Due = record { numbers = c.numbers.result; span = record { packet_id = c.in-Some.after.now.packet_id; number = c.in-Some.after.now.first_number } } in
-    rw c.in-Some.is (rest_behind c.in-Some.after.now from c.args.index.now.keys c.range.result c.numbers.ensures c.range.ensures.ordered (c.range.ensures.between tt))
+returns-in-Some c = rw c.in-Some.is (rest_behind c.in-Some.after.now c.place_of.result c.args.from.0 c.args.to.0 c.args.index.now.keys c.range.result c.place_of.ensures c.range.ensures.ordered (c.range.ensures.between tt))
 
 pub returns-in-None : goal.returns-in-None
-returns-in-None c = rw c.in-None.is (rest_all c.args.index.now.keys c.range-in-None.result c.range-in-None.ensures.ordered (c.range-in-None.ensures.between tt))
+returns-in-None c = rw c.in-None.is (rest_all c.args.from.0 c.args.to.0 c.args.index.now.keys c.range-in-None.result c.range-in-None.ensures.ordered (c.range-in-None.ensures.between tt))
