@@ -152,10 +152,6 @@ up_to_last row q i s r h = let f : Found row r = found row r h in rising row f.p
 pub from_first : (row : List Queued) (q : Queued) → IsRow row → StandsAt row 0 q → (r : Queued) → has row r ≡ true → q.time ≤ r.time
 from_first row q i s r h = let f : Found row r = found row r h in rising row 0 f.place q r i s f.at (omega arith)
 
--- a row with no last packet is empty
-pub no_last : (row : List Queued) → (0 < length row → ⊥) → (r : Queued) → has row r ≡ true → ⊥
-no_last row n r h = let f : Found row r = found row r h in n (let w = f.at.within in omega arith)
-
 -- where the interval that is out of the window does not wrap round
 pub straight_out : (row : List Queued) (clock window last first : ℕ) (o : Option ℕ) → IsShort row → window < 2 ^ 32 → clock < 2 ^ 32 → last ≡ ahead_of clock window → first ≡ plus last (2 ^ 31) → first ≤ last → FindsPlaceBetween row first last o → FindsPlaceOut row clock window o
 straight_out row clock window last first (Some place) s w c l f o u = (u.0, λ q a. out_between q.time window clock last first (s q (has-stands row place q a)) w c l f o (u.1 q a).0 (u.1 q a).1)

@@ -12,10 +12,6 @@ pub or_true : (x : Bool) → (x || true) ≡ true
 or_true true = refl
 or_true false = refl
 
-pub or_false : (x : Bool) → (x || false) ≡ x
-or_false true = refl
-or_false false = refl
-
 -- a packet is itself
 pub itself : (q : Queued) → is_eq (order q q) ≡ true
 itself q = grind (arith, nat_tests)

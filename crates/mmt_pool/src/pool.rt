@@ -175,6 +175,7 @@ impl Pool {
         ensures peak { self.new.peak ≡ max self.old.peak (held self.new.kept) }
         ensures model { Follows self.old clock.0 delay (of_packet packet.now) result self.new }
     {
+        let _ = &self.total;
         if clock.is_after(packet.time.plus(delay)) {
             return Err(NotStored::Late { clock });
         }

@@ -25,11 +25,13 @@ pub returns-in-Err-clause-keeps : goal.returns-in-Err-clause-keeps
 returns-in-Err-clause-keeps c =
     let t : c.self.inside.total ≡ held c.args.self.now.kept = c.self.invariant.sum ∙ ap (λ w. held w.kept) c.self.view_is in
     let b : c.self.inside.bound ≡ c.args.self.now.bound = ap (λ w. w.bound) c.self.view_is in
-    let m : held c.args.self.now.kept ≤ c.args.self.now.bound = omega (arith, t, b, c.self.invariant.sum, c.self.invariant.sound.within_peak, c.self.invariant.sound.within_bound) in
-    (record {
-      absent = any_of false (of_packet c.args.packet.now) c.args.span c.self.inside.packets.entries c.args.self.now _ _ c.requires.span c.self.view_is (ap is_some c.in-Err.ensures.absent);
-      room = omega (arith, t, b, m, c.if-is_full.false);
-    }, unchanged _ c.self.inside.packets.entries _ _ _ c.self.view_is (search rules))
+    let m : held c.args.self.now.kept ≤ c.args.self.now.bound = omega (arith, t, b, c.self.invariant.sum, c.self.invariant.sound.within_peak, c.self.invariant.sound.within_bound) in (
+      record {
+        absent = any_of false (of_packet c.args.packet.now) c.args.span c.self.inside.packets.entries c.args.self.now _ _ c.requires.span c.self.view_is (ap is_some c.in-Err.ensures.absent);
+        room = omega (arith, t, b, m, c.if-is_full.false);
+      },
+      unchanged _ c.self.inside.packets.entries _ _ _ c.self.view_is (search rules),
+    )
 
 pub returns-then-is_full-2-clause-keeps : goal.returns-then-is_full-2-clause-keeps
 returns-then-is_full-2-clause-keeps c =
@@ -43,22 +45,26 @@ returns-in-Err-cut-clause-keeps c =
     let f = rw c.in-Ok-Vacant.field-0-is at c.in-Ok-Vacant.ensures.found in
     let t : c.self.inside.total ≡ held c.args.self.now.kept = c.self.invariant.sum ∙ ap (λ w. held w.kept) c.self.view_is in
     let b : c.self.inside.bound ≡ c.args.self.now.bound = ap (λ w. w.bound) c.self.view_is in
-    let m : held c.args.self.now.kept ≤ c.args.self.now.bound = omega (arith, t, b, c.self.invariant.sum, c.self.invariant.sound.within_peak, c.self.invariant.sound.within_bound) in
-    (record {
-      absent = any_of false (of_packet c.args.packet.now) c.args.span c.self.inside.packets.entries c.args.self.now _ _ c.requires.span c.self.view_is (ap is_some f);
-      room = omega (arith, t, b, m, c.if-is_full-2.false);
-    }, unchanged _ c.self.inside.packets.entries _ _ _ c.self.view_is (search rules))
+    let m : held c.args.self.now.kept ≤ c.args.self.now.bound = omega (arith, t, b, c.self.invariant.sum, c.self.invariant.sound.within_peak, c.self.invariant.sound.within_bound) in (
+      record {
+        absent = any_of false (of_packet c.args.packet.now) c.args.span c.self.inside.packets.entries c.args.self.now _ _ c.requires.span c.self.view_is (ap is_some f);
+        room = omega (arith, t, b, m, c.if-is_full-2.false);
+      },
+      unchanged _ c.self.inside.packets.entries _ _ _ c.self.view_is (search rules),
+    )
 
 pub returns-in-Err-put-clause-keeps : goal.returns-in-Err-put-clause-keeps
 returns-in-Err-put-clause-keeps c =
     let f = rw c.in-Ok-Vacant.field-0-is at c.in-Ok-Vacant.ensures.found in
     let t : c.self.inside.total ≡ held c.args.self.now.kept = c.self.invariant.sum ∙ ap (λ w. held w.kept) c.self.view_is in
     let b : c.self.inside.bound ≡ c.args.self.now.bound = ap (λ w. w.bound) c.self.view_is in
-    let m : held c.args.self.now.kept ≤ c.args.self.now.bound = omega (arith, t, b, c.self.invariant.sum, c.self.invariant.sound.within_peak, c.self.invariant.sound.within_bound) in
-    (record {
-      absent = any_of false (of_packet c.args.packet.now) c.args.span c.self.inside.packets.entries c.args.self.now _ _ c.requires.span c.self.view_is (ap is_some f);
-      room = omega (arith, t, b, m, c.if-is_full-2.false);
-    }, unchanged _ c.self.inside.packets.entries _ _ _ c.self.view_is (search rules))
+    let m : held c.args.self.now.kept ≤ c.args.self.now.bound = omega (arith, t, b, c.self.invariant.sum, c.self.invariant.sound.within_peak, c.self.invariant.sound.within_bound) in (
+      record {
+        absent = any_of false (of_packet c.args.packet.now) c.args.span c.self.inside.packets.entries c.args.self.now _ _ c.requires.span c.self.view_is (ap is_some f);
+        room = omega (arith, t, b, m, c.if-is_full-2.false);
+      },
+      unchanged _ c.self.inside.packets.entries _ _ _ c.self.view_is (search rules),
+    )
 
 pub put-requires : goal.put-requires
 put-requires c =
