@@ -100,14 +100,6 @@ pub window-entry : (clock window : ℕ) (s : Span) (v : Stored) (b : Bool) → i
 unfolding is_in_window
 window-entry clock window s v b e = e
 
--- no kept packet has the span where the map has no entry of it
-pub absent-entries : (s : Span) (es : List (Span × Stored)) → list_any (is_at s.packet_id s.number) (map entry_of es) ≡ false → lookup (λ k. is_eq (order s k)) es ≡ None
-absent-entries s es n = none_of (lookup (λ k. is_eq (order s k)) es) (sym (any-entries s es) ∙ n)
-  where
-    none_of : (o : Option Stored) → is_some o ≡ false → o ≡ None
-    none_of None e = refl
-    none_of (Some x) e = absurd cc
-
 -- the pool with one more entry is the pool with one more packet
 pub holding-insert : (s : Span) (v : Stored) (es new_es : List (Span × Stored)) (bound peak total new_peak : ℕ) → lookup (λ k. is_eq (order s k)) es ≡ None → new_es ≡ insert_entry order es s v
     → total ≡ held (map entry_of es) → new_peak ≡ max peak (total + length v.payload) → holding_of new_es bound new_peak ≡ with_packet (holding_of es bound peak) (entry_of (s, v))

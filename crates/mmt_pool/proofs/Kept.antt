@@ -13,7 +13,7 @@ use Rattle.mmt_pool.specs.declared.types.NotStored.{NotStored}
 use Rattle.mmt_pool.specs.declared.types.NotStored.TheVariants as why
 use Rattle.mmt_pool.specs.Holding.{Kept, Holding, held, size_of, is_at, is_before, is_in_window, packet_at, without, IsInOrder, IsKeepable, HasRoom, IsSound, HasPart, part_at, LiesAt}
 use Rattle.mmt_pool.specs.Outcome.{pool_outcome}
-use Rattle.mmt_pool.specs.Doing.{with_packet, Stores}
+use Rattle.mmt_pool.specs.Doing.{with_packet, span_of, Keeps, Stores}
 
 -- the sum without a packet is less by its length
 pub held-without : (kept : List Kept) (id number : ℕ) (p : Kept) → packet_at kept id number ≡ Some p → held (without kept id number) + length p.payload ≡ held kept
@@ -202,3 +202,15 @@ peak-stores old clock delay p (Err (why.Late now)) new s d = rw (d.2) (omega (ar
 peak-stores old clock delay p (Err why.Repeat) new s d = rw (d.1) (omega (arith, s.within_peak))
 peak-stores old clock delay p (Err (why.Full sum length')) new s d = rw (d.3) (omega (arith, s.within_peak))
 peak-stores old clock delay p (Err why.OutOfMemory) new s d = rw (d.1) (omega (arith, s.within_peak))
+
+abbrev pub map_ok : Span → Result Unit NotStored → Result Span NotStored
+map_ok span (Ok done) = Ok span
+map_ok span (Err refusal) = Err refusal
+
+-- what becomes of a packet that is in time is what becomes of it
+pub keeps-stores : (old : Holding) (clock delay : ℕ) (p : Kept) (result : Result Unit NotStored) (span : Span) (new : Holding) → is_after clock (plus p.time delay) ≡ false → span ≡ span_of p → Keeps old p result new → Stores old clock delay p (map_ok span result) new
+keeps-stores old clock delay p (Ok done) span new a e k = (pool_outcome-stored old clock delay p a k.0.absent k.0.room, e, k.1)
+keeps-stores old clock delay p (Err (why.Late now)) span new a e k = absurd k
+keeps-stores old clock delay p (Err why.Repeat) span new a e k = (pool_outcome-repeat old clock delay p a k.0, k.1)
+keeps-stores old clock delay p (Err (why.Full sum length')) span new a e k = (pool_outcome-full old clock delay p a k.0 k.1, k.2, k.3, k.4)
+keeps-stores old clock delay p (Err why.OutOfMemory) span new a e k = (pool_outcome-stored old clock delay p a k.0.absent k.0.room, k.1)

@@ -3,4 +3,7 @@ pub mod Kept
 pub mod Model
 pub mod Ticks
 pub mod QueueOrder
+pub mod RowOrder
+pub mod Queues
 pub mod Tying
+pub mod Keeping

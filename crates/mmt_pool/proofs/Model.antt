@@ -12,7 +12,7 @@ use Rattle.mmt_pool.specs.declared.types.NotStored.{NotStored}
 use Rattle.mmt_pool.specs.declared.types.NotStored.TheVariants as why
 use Rattle.mmt_pool.specs.Holding.{Kept, Holding, held, size_of, is_at, is_before, is_in_window}
 use Rattle.mmt_pool.specs.Outcome.{pool_outcome, Shows, Follows}
-use Rattle.mmt_pool.specs.Doing.{Refuses, Stores}
+use Rattle.mmt_pool.specs.Doing.{Stores}
 
 repeat-shown : (heard : Kept → Heard) → Shows heard → (p q : Kept) → is_repeat (heard p) (heard q) ≡ is_at p.packet_id p.number q
 unfolding is_repeat is_at
@@ -94,10 +94,3 @@ follows-stores old clock delay p (Err (why.Late now)) new d = λ heard s o windo
 follows-stores old clock delay p (Err why.Repeat) new d = λ heard s o window. refused-follows heard old new _ Outcome.Repeat p (outcome-shown heard s window clock delay old p o ∙ d.0) (λ x. cc) (d.1)
 follows-stores old clock delay p (Err (why.Full sum length')) new d = λ heard s o window. refused-follows heard old new _ Outcome.Full p (outcome-shown heard s window clock delay old p o ∙ d.0) (λ x. cc) (d.3)
 follows-stores old clock delay p (Err why.OutOfMemory) new d = λ heard s o window. (outcome-shown heard s window clock delay old p o ∙ d.0, rw (d.1) refl)
-
--- a refused packet leaves the pool as it was
-pub refuses-stores : (h : Holding) (clock delay : ℕ) (p : Kept) (refusal : NotStored) → Refuses h clock delay p (Some refusal) → Stores h clock delay p (Err refusal) h
-refuses-stores h clock delay p (why.Late now) r = (r.0, r.1, refl)
-refuses-stores h clock delay p why.Repeat r = (r, refl)
-refuses-stores h clock delay p (why.Full sum length') r = (r.0, r.1, r.2, refl)
-refuses-stores h clock delay p why.OutOfMemory r = absurd r

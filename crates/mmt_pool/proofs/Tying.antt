@@ -3,8 +3,6 @@ use Rattle.std.proofs.Common.{◌≡◌, ℕ, ◌<◌, ◌^◌, Bool, true, fals
 use Rattle.std.specs.List.{AllByRecursion}
 use Rattle.std.specs.Map.{lookup}
 use Rattle.std.specs.Ordering.{is_eq}
-use Rattle.std.specs.BTreeSet.{BTreeSet}
-use Rattle.std.specs.BTreeSet as set
 use Rattle.std.proofs.lemmas.Bool.Decides.{nat_tests}
 use Rattle.std.proofs.lemmas.Bool.{eq-eqb, eqb-true, ne_eqb}
 use Rattle.mmt_pool.specs.declared.types.Span.{Span}
@@ -13,7 +11,8 @@ use Rattle.mmt_pool.specs.declared.pool.Stored.{Stored}
 use Rattle.mmt_pool.specs.Holding.{IsInOrder, is_before, is_in_window}
 use Rattle.mmt_pool.specs.Doing.{IsExpired}
 use Rattle.mmt_pool.specs.Stored.{entry_of}
-use Rattle.mmt_pool.specs.Queue.{order as queue_order, FindsOut}
+use Rattle.mmt_pool.specs.Queue.{order as queue_order, has}
+use Rattle.mmt_base.specs.Ticks.{is_after, plus}
 use Rattle.mmt_pool.specs.Tied.{IsTied, has_time}
 use Rattle.mmt_pool.proofs.Entries.{order, same_order, Stands, Here, Before, After, stands, packet_at-entries}
 use Rattle.mmt_pool.proofs.QueueOrder.{Apart, Same, Other, apart}
@@ -21,61 +20,39 @@ use Rattle.mmt_pool.proofs.QueueOrder.{Apart, Same, Other, apart}
 abbrev pub at : Span → List (Span × Stored) → Option Stored
 at s es = lookup (λ k. is_eq (order s k)) es
 
-abbrev pub in_queue : BTreeSet Queued → Queued → Bool
-in_queue queue q = set.contains queue_order queue q
-
 -- one more packet in the queue, or one fewer
-abbrev pub Turns : BTreeSet Queued → BTreeSet Queued → Queued → Bool → Type 0
-Turns old new q b = (r : Queued) → in_queue new r ≡ cond (is_eq (queue_order q r)) b (in_queue old r)
+abbrev pub Turns : List Queued → List Queued → Queued → Bool → Type 0
+Turns old new q b = (r : Queued) → has new r ≡ cond (is_eq (queue_order q r)) b (has old r)
 
 -- one more entry in the map, or one fewer
 abbrev pub Gets : List (Span × Stored) → List (Span × Stored) → Span → Option Stored → Type 0
 Gets old new s w = (k : Span) → at k new ≡ cond (is_eq (order s k)) w (at k old)
 
 -- a packet put into both
-pub tied-insert : (old new : BTreeSet Queued) (es fs : List (Span × Stored)) (q : Queued) (v : Stored) → v.time.0 ≡ q.time → q.time < 2 ^ 32 → at q.span es ≡ None → Turns old new q true → Gets es fs q.span (Some v) → IsTied old es → IsTied new fs
-tied-insert old new es fs q v t s none turn gets tied = record { same = λ r. same r (apart q r) (stands q.span r.span); short = λ r h. short r (apart q r) (sym (turn r) ∙ h) }
+pub tied-insert : (old new : List Queued) (es fs : List (Span × Stored)) (q : Queued) (v : Stored) → v.time.0 ≡ q.time → at q.span es ≡ None → Turns old new q true → Gets es fs q.span (Some v) → IsTied old es → IsTied new fs
+tied-insert old new es fs q v t none turn gets tied = record { same = λ r. same r (apart q r) (stands q.span r.span) }
   where
     timed : (r : Queued) → q ≡ r → has_time r.time (at r.span fs) ≡ true
     timed r here = rw (← here, gets q.span, same_order q.span, t) (eq-eqb q.time q.time refl)
 
-    same : (r : Queued) → Apart q r → Stands q.span r.span → in_queue new r ≡ has_time r.time (at r.span fs)
+    same : (r : Queued) → Apart q r → Stands q.span r.span → has new r ≡ has_time r.time (at r.span fs)
     same r (Same e here) k = rw (turn r, e) (sym (timed r here))
     same r (Other e n) (Here o here) = rw (turn r, e, tied.same r, ← here, none, gets q.span, same_order q.span) (sym (ne_eqb v.time.0 r.time (λ x. n (sym t ∙ x) here)))
     same r (Other e n) (Before o b a) = rw (turn r, e, gets r.span, o) (tied.same r)
     same r (Other e n) (After o b a) = rw (turn r, e, gets r.span, o) (tied.same r)
 
-    short : (r : Queued) → Apart q r → cond (is_eq (queue_order q r)) true (in_queue old r) ≡ true → r.time < 2 ^ 32
-    short r (Same e here) h = rw (← here) s
-    short r (Other e n) h = tied.short r (rw e at h)
-
 -- taken out of both
-pub tied-remove : (old new : BTreeSet Queued) (es fs : List (Span × Stored)) (q : Queued) (v : Stored) → v.time.0 ≡ q.time → at q.span es ≡ Some v → Turns old new q false → Gets es fs q.span None → IsTied old es → IsTied new fs
-tied-remove old new es fs q v t some turn gets tied = record { same = λ r. same r (apart q r) (stands q.span r.span); short = λ r h. short r (apart q r) (sym (turn r) ∙ h) }
+pub tied-remove : (old new : List Queued) (es fs : List (Span × Stored)) (q : Queued) (v : Stored) → v.time.0 ≡ q.time → at q.span es ≡ Some v → Turns old new q false → Gets es fs q.span None → IsTied old es → IsTied new fs
+tied-remove old new es fs q v t some turn gets tied = record { same = λ r. same r (apart q r) (stands q.span r.span) }
   where
     timed : (r : Queued) → q ≡ r → has_time r.time (at r.span fs) ≡ false
     timed r here = rw (← here, gets q.span, same_order q.span) refl
 
-    same : (r : Queued) → Apart q r → Stands q.span r.span → in_queue new r ≡ has_time r.time (at r.span fs)
+    same : (r : Queued) → Apart q r → Stands q.span r.span → has new r ≡ has_time r.time (at r.span fs)
     same r (Same e here) k = rw (turn r, e) (sym (timed r here))
     same r (Other e n) (Here o here) = rw (turn r, e, tied.same r, ← here, some, gets q.span, same_order q.span) (ne_eqb v.time.0 r.time (λ x. n (sym t ∙ x) here))
     same r (Other e n) (Before o b a) = rw (turn r, e, gets r.span, o) (tied.same r)
     same r (Other e n) (After o b a) = rw (turn r, e, gets r.span, o) (tied.same r)
-
-    short : (r : Queued) → Apart q r → cond (is_eq (queue_order q r)) false (in_queue old r) ≡ true → r.time < 2 ^ 32
-    short r (Same e here) h = let no : false ≡ true = rw e at h in absurd cc
-    short r (Other e n) h = tied.short r (rw e at h)
-
--- put into the queue and taken out again
-pub tied-back : (old mid new : BTreeSet Queued) (es : List (Span × Stored)) (q : Queued) → at q.span es ≡ None → Turns old mid q true → Turns mid new q false → IsTied old es → IsTied new es
-tied-back old mid new es q none turn back tied = record { same = λ r. is r (apart q r) ∙ tied.same r; short = λ r h. tied.short r (sym (is r (apart q r)) ∙ h) }
-  where
-    was : (r : Queued) → q ≡ r → in_queue old r ≡ false
-    was r here = tied.same r ∙ rw (← here, none) refl
-
-    is : (r : Queued) → Apart q r → in_queue new r ≡ in_queue old r
-    is r (Same e here) = rw (back r, e) (sym (was r here))
-    is r (Other e n) = rw (back r, e, turn r, e) refl
 
 -- what the map has under a span, at a timestamp
 timed-some : (time : ℕ) (o : Option Stored) → has_time time o ≡ true → (v : Stored) × (o ≡ Some v) × (v.time.0 ≡ time)
@@ -83,18 +60,18 @@ timed-some time None h = absurd cc
 timed-some time (Some v) h = (v, refl, eqb-true v.time.0 time h)
 
 -- the map has each packet of the queue
-pub queued-has : (queue : BTreeSet Queued) (es : List (Span × Stored)) (q : Queued) → in_queue queue q ≡ true → IsTied queue es → (v : Stored) × (at q.span es ≡ Some v) × (v.time.0 ≡ q.time)
+pub queued-has : (queue : List Queued) (es : List (Span × Stored)) (q : Queued) → has queue q ≡ true → IsTied queue es → (v : Stored) × (at q.span es ≡ Some v) × (v.time.0 ≡ q.time)
 queued-has queue es q h tied = timed-some q.time (at q.span es) (sym (tied.same q) ∙ h)
 
 -- a packet of the queue that is out of the window is a kept one that is
-pub queued-expired : (queue : BTreeSet Queued) (es : List (Span × Stored)) (clock window : ℕ) (q : Queued) → FindsOut queue clock window (Some q) → IsTied queue es → IsExpired clock window (map entry_of es) q.span
+pub queued-expired : (queue : List Queued) (es : List (Span × Stored)) (clock window : ℕ) (q : Queued) → has queue q ≡ true → is_after (plus q.time window) clock ≡ false → IsTied queue es → IsExpired clock window (map entry_of es) q.span
 unfolding is_in_window
-queued-expired queue es clock window q f tied =
-    let has : (v : Stored) × (at q.span es ≡ Some v) × (v.time.0 ≡ q.time) = queued-has queue es q f.0 tied in
+queued-expired queue es clock window q h e tied =
+    let is : (v : Stored) × (at q.span es ≡ Some v) × (v.time.0 ≡ q.time) = queued-has queue es q h tied in
     record {
-      packet = entry_of (q.span, has.0);
-      found = packet_at-entries q.span es ∙ ap (λ o. option_map (λ v. entry_of (q.span, v)) o) has.1;
-      expired = rw (has.2) f.1;
+      packet = entry_of (q.span, is.0);
+      found = packet_at-entries q.span es ∙ ap (λ o. option_map (λ v. entry_of (q.span, v)) o) is.1;
+      expired = rw (is.2) e;
     }
 
 -- each entry of a map in order is found under its span
@@ -116,7 +93,7 @@ found-each (e ∷ es) r = (rw (same_order e.0) refl, later es (found-each es r.1
     later (f ∷ fs) h b = (rw (other f (stands f.0 e.0) b.0) h.0, later fs h.1 b.1)
 
 -- where no packet of the queue is out of the window, all kept ones are in it
-pub all-in-window : (queue : BTreeSet Queued) (es : List (Span × Stored)) (clock window : ℕ) → IsInOrder (map entry_of es) → FindsOut queue clock window None → IsTied queue es → AllByRecursion (λ p. is_in_window clock window p ≡ true) (map entry_of es)
+pub all-in-window : (queue : List Queued) (es : List (Span × Stored)) (clock window : ℕ) → IsInOrder (map entry_of es) → ((q : Queued) → has queue q ≡ true → is_after (plus q.time window) clock ≡ true) → IsTied queue es → AllByRecursion (λ p. is_in_window clock window p ≡ true) (map entry_of es)
 unfolding is_in_window
 all-in-window queue es clock window r f tied = go es (found-each es r)
   where
@@ -127,5 +104,5 @@ all-in-window queue es clock window r f tied = go es (found-each es r)
         (f q (tied.same q ∙ (ap (λ o. has_time e.1.time.0 o) h.0 ∙ eq-eqb e.1.time.0 e.1.time.0 refl)), go fs h.1)
 
 -- an empty queue with an empty map
-pub tied-none : (queue : BTreeSet Queued) → queue.keys ≡ [] → IsTied queue []
-tied-none queue e = record { same = λ q. rw e refl; short = λ q h. let no : false ≡ true = rw e at h in absurd cc }
+pub tied-none : IsTied [] []
+tied-none = record { same = λ q. refl }

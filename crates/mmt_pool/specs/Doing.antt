@@ -1,6 +1,6 @@
 -- What the calls of a pool do.
-use Rattle.std.specs.Prelude.{◌≡◌, ℕ, ◌+◌, max, true, false, List, length, Option, Some, None, Result, Ok, Err}
-use Rattle.std.specs.List.{AllByRecursion}
+use Rattle.std.specs.Prelude.{◌≡◌, ℕ, ◌+◌, ◌<◌, max, true, false, List, length, Option, Some, None, Result, Ok, Err}
+use Rattle.std.specs.List.{AllByRecursion, list_any}
 use Rattle.mmt_packet.specs.declared.packet.Kind.{Kind}
 use Rattle.mmt_packet.specs.declared.packet.Packet.{Packet}
 use Rattle.mmt_model.specs.Sorted.{insert_by}
@@ -8,7 +8,7 @@ use Rattle.mmt_model.specs.Keeping.{Outcome}
 use Rattle.mmt_pool.specs.declared.types.Span.{Span}
 use Rattle.mmt_pool.specs.declared.types.NotStored.{NotStored}
 use Rattle.mmt_pool.specs.declared.types.NotStored.TheVariants as why
-use Rattle.mmt_pool.specs.Holding.{Kept, Holding, held, is_before, is_in_window, packet_at, without}
+use Rattle.mmt_pool.specs.Holding.{Kept, Holding, HasRoom, held, is_at, is_before, is_in_window, packet_at, without}
 use Rattle.mmt_pool.specs.Outcome.{pool_outcome}
 
 -- an MMTP packet as a kept one (ISO/IEC 23008-1, the MMTP packet)
@@ -27,13 +27,13 @@ span_of p = record { packet_id = p.packet_id; number = p.number }
 abbrev pub with_packet : Holding → Kept → Holding
 with_packet h p = record { kept = insert_by is_before p h.kept; bound = h.bound; peak = max h.peak (held h.kept + length p.payload) }
 
--- a packet's refusal other than for want of memory, or none: it tells of the packet's outcome, Late with the clock, Full with the bytes held and the packet's own (this project's rule)
-abbrev pub Refuses : Holding → ℕ → ℕ → Kept → Option NotStored → Type 0
-Refuses h clock delay p None = pool_outcome h clock delay p ≡ Outcome.Stored
-Refuses h clock delay p (Some (why.Late now)) = (pool_outcome h clock delay p ≡ Outcome.Late) × (now.0 ≡ clock)
-Refuses h clock delay p (Some why.Repeat) = pool_outcome h clock delay p ≡ Outcome.Repeat
-Refuses h clock delay p (Some (why.Full sum length')) = (pool_outcome h clock delay p ≡ Outcome.Full) × (sum ≡ held h.kept) × (length' ≡ length p.payload)
-Refuses h clock delay p (Some why.OutOfMemory) = ⊥
+-- what becomes of a packet that is in time: Repeat where its packet id and number are kept, otherwise Full where the kept payload bytes and its own are more than the bound, with both sums, otherwise it is kept or memory is wanting; a refusal leaves the pool as it was (this project's rule)
+abbrev pub Keeps : Holding → Kept → Result Unit NotStored → Holding → Type 0
+Keeps old p (Ok done) new = HasRoom old p × (new ≡ with_packet old p)
+Keeps old p (Err (why.Late now)) new = ⊥
+Keeps old p (Err why.Repeat) new = (list_any (is_at p.packet_id p.number) old.kept ≡ true) × (new ≡ old)
+Keeps old p (Err (why.Full sum length')) new = (list_any (is_at p.packet_id p.number) old.kept ≡ false) × (old.bound < held old.kept + length p.payload) × (sum ≡ held old.kept) × (length' ≡ length p.payload) × (new ≡ old)
+Keeps old p (Err why.OutOfMemory) new = HasRoom old p × (new ≡ old)
 
 -- the answer tells of the packet's outcome; Ok with its span and the packet kept, a refusal with the pool as it was (this project's rule)
 abbrev pub Stores : Holding → ℕ → ℕ → Kept → Result Span NotStored → Holding → Type 0

@@ -3,6 +3,8 @@
 
 mod pool;
 mod queue;
+mod row;
+mod strays;
 #[cfg(test)]
 mod tests;
 mod types;

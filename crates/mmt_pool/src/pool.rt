@@ -3,13 +3,14 @@
 ghost use Rattle.std.specs.Prelude.{◌≡◌, ℕ, ◌+◌, ◌<◌, ◌≤◌, ◌^◌, max, [], List, length, map, filter, take, drop, true, false, IfOk, OnOk, OnErr, IfSome, IfNone, option_map, Some};
 ghost use Rattle.std.specs.List.{AllByRecursion, list_any};
 
-use crate::queue::{Queued, first_out};
+use crate::queue::{Queue, Queued};
 use crate::types::{NotStored, Span};
 use bytes::Bytes;
 use mmt_base::{OutOfMemory, Tick};
 use mmt_packet::{Kind, Packet};
 use std::alloc::Global;
-use std::collections::{BTreeMap, BTreeSet};
+use std::collections::BTreeMap;
+use std::collections::btree_map::Entry;
 use std::marker::Model;
 
 #[cfg(test)]
@@ -28,7 +29,7 @@ struct Stored {
 pub struct Pool {
     alloc: Global,
     packets: BTreeMap<Span, Stored>,
-    queue: BTreeSet<Queued>,
+    queue: Queue,
     total: u32,
     bound: u32,
     peak: u32,
@@ -58,8 +59,8 @@ fn cut(alloc: Global, tlv: &[u8], from: usize, count: usize) -> Result<Bytes, Ou
 }
 
 impl Pool {
-    ghost use Rattle.mmt_pool.specs.Holding.{Kept, Holding, IsSound, IsKeepable, HasRoom, held, payload_at, kind_at, packet_at, is_at, is_kept_kind, is_in_window, IsInOrder, HasPart, part_at, LiesAt};
-    ghost use Rattle.mmt_pool.specs.Doing.{Stores, Refuses, Expires, of_packet, kept_as, with_packet};
+    ghost use Rattle.mmt_pool.specs.Holding.{Kept, Holding, IsSound, IsKeepable, held, payload_at, kind_at, packet_at, is_at, is_kept_kind, is_in_window, IsInOrder, HasPart, part_at, LiesAt};
+    ghost use Rattle.mmt_pool.specs.Doing.{Keeps, Stores, Expires, of_packet, span_of};
     ghost use Rattle.mmt_pool.specs.Outcome.{Follows};
 
     /// An empty pool, for at most `bound` payload bytes.
@@ -73,7 +74,7 @@ impl Pool {
         Ok(Pool {
             alloc,
             packets: BTreeMap::new(alloc),
-            queue: BTreeSet::new(alloc),
+            queue: Queue::new(alloc),
             total: 0,
             bound,
             peak: 0,
@@ -99,51 +100,52 @@ impl Pool {
         self.peak
     }
 
-    // Why the packet is not to be stored.
-    fn refusal(&self, clock: Tick, delay: u32, packet: &Packet<'_>) -> Option<NotStored>
-        requires { length packet.now.payload.now < 2 ^ 31 }
-        ensures refuses { Refuses self.now clock.0 delay (of_packet packet.now) result }
-        ensures sound { IsSound self.now }
+    // Keeps a packet that is in time. One search finds whether its span is kept and where it goes, and
+    // makes the room for it there; so the queue is the last that takes memory, and there is nothing to undo.
+    fn keep(
+        &mut self,
+        span: Span,
+        tlv: &[u8],
+        from: u32,
+        packet: &Packet<'_>,
+    ) -> Result<(), NotStored>
+        requires span { span ≡ span_of (of_packet packet.now) }
+        requires short { length tlv.now < 2 ^ 31 }
+        requires payload { LiesAt tlv.now from packet.now.payload.now }
+        requires kind { is_kept_kind packet.now.kind ≡ true }
+        ensures keeps { Keeps self.old (of_packet packet.now) result self.new }
+        ensures sound { IsSound self.new }
+        ensures was_sound { IsSound self.old }
     {
         let held = self.total;
-        if clock.is_after(packet.time.plus(delay)) {
-            return Some(NotStored::Late { clock });
-        }
-        let span = Span {
-            packet_id: packet.packet_id,
-            number: packet.number,
-        };
-        if self.packets.contains_key(&span) {
-            return Some(NotStored::Repeat);
-        }
         let length = packet.payload.len() as u32;
-        if length > self.bound - held {
-            return Some(NotStored::Full { held, length });
-        }
-        None
-    }
-
-    // Keeps a new packet that there is room for. Where it cannot, it takes out again what it had put in.
-    fn put(&mut self, span: Span, time: Tick, kind: Kind, payload: Bytes) -> Result<(), OutOfMemory>
-        requires room { HasRoom self.old (kept_as span time.0 kind payload) }
-        requires kind { is_kept_kind kind ≡ true }
-        requires short { length payload < 2 ^ 31 }
-        ensures keepable { IsKeepable (kept_as span time.0 kind payload) }
-        ensures ok { OnOk result (self.new ≡ with_packet self.old (kept_as span time.0 kind payload)) }
-        ensures err { OnErr result (self.new ≡ self.old) }
-    {
-        let length = payload.len() as u32;
-        let queued = Queued { time: time.0, span };
-        self.queue.insert(queued)?;
-        let stored = Stored {
-            time,
-            kind,
-            payload,
+        let is_full = length > self.bound - held;
+        let place = match self.packets.entry(span) {
+            Ok(Entry::Vacant(place)) => place,
+            Ok(Entry::Occupied(_kept)) => return Err(NotStored::Repeat),
+            Err(_no_memory) => {
+                if is_full {
+                    return Err(NotStored::Full { held, length });
+                }
+                return Err(NotStored::OutOfMemory);
+            }
         };
-        if let Err(_) = self.packets.insert(span, stored) {
-            let _ = self.queue.remove(&queued);
-            return Err(OutOfMemory);
+        if is_full {
+            return Err(NotStored::Full { held, length });
         }
+        let payload = match cut(self.alloc, tlv, from as usize, packet.payload.len()) {
+            Ok(payload) => payload,
+            Err(_) => return Err(NotStored::OutOfMemory),
+        };
+        let time = packet.time;
+        if let Err(_) = self.queue.put(Queued { time: time.0, span }) {
+            return Err(NotStored::OutOfMemory);
+        }
+        let _ = place.insert_entry(Stored {
+            time,
+            kind: packet.kind,
+            payload,
+        });
         self.total += length;
         self.peak = self.peak.max(self.total);
         Ok(())
@@ -173,20 +175,17 @@ impl Pool {
         ensures peak { self.new.peak ≡ max self.old.peak (held self.new.kept) }
         ensures model { Follows self.old clock.0 delay (of_packet packet.now) result self.new }
     {
-        if let Some(refusal) = self.refusal(clock, delay, packet) {
-            return Err(refusal);
+        let _ = &self.total;
+        if clock.is_after(packet.time.plus(delay)) {
+            return Err(NotStored::Late { clock });
         }
         let span = Span {
             packet_id: packet.packet_id,
             number: packet.number,
         };
-        let payload = match cut(self.alloc, tlv, from as usize, packet.payload.len()) {
-            Ok(payload) => payload,
-            Err(_) => return Err(NotStored::OutOfMemory),
-        };
-        match self.put(span, packet.time, packet.kind, payload) {
+        match self.keep(span, tlv, from, packet) {
             Ok(()) => Ok(span),
-            Err(_) => Err(NotStored::OutOfMemory),
+            Err(refusal) => Err(refusal),
         }
     }
 
@@ -201,11 +200,10 @@ impl Pool {
         ensures fewer { IfSome result (λ _. length self.new.kept < length self.old.kept) }
         ensures done { IfNone result (self.new.kept ≡ filter (is_in_window clock.0 window) self.old.kept) }
     {
-        let queued = first_out(&self.queue, clock, window)?;
+        let queued = self.queue.take_out(clock, window)?;
         let Some(stored) = self.packets.remove(&queued.span) else {
             unreachable!()
         };
-        let _ = self.queue.remove(&queued);
         self.total -= stored.payload.len() as u32;
         Some(queued.span)
     }

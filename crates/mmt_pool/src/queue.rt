@@ -1,8 +1,12 @@
-//! The queue of kept packets, in the order of their timestamps.
+//! The queue of kept packets, by their timestamps.
 
+use crate::row::{ends_by, place_out};
+use crate::strays::first_out;
 use crate::types::Span;
-use mmt_base::Tick;
-use std::collections::BTreeSet;
+use mmt_base::{OutOfMemory, Tick};
+use std::alloc::Global;
+use std::collections::{BTreeSet, VecDeque};
+use std::marker::Model;
 
 /// A kept packet in the queue: its timestamp, and then its span.
 #[derive(Clone, Copy, PartialEq, Eq, PartialOrd, Ord)]
@@ -11,91 +15,72 @@ pub(crate) struct Queued {
     pub span: Span,
 }
 
-ghost use Rattle.std.specs.Prelude.{◌<◌, ◌^◌};
-ghost use Rattle.mmt_pool.specs.Queue.{IsShort, FindsFrom, FindsLeast, FindsGreatest, FindsOneFrom, FindsBetween, FindsOut};
-
-// The first packet of the queue whose timestamp is, as a number, at least this one.
-fn first_from(queue: &BTreeSet<Queued>, time: u32) -> Option<Queued>
-    ensures { FindsFrom queue.now time result }
-{
-    let from = Queued {
-        time,
-        span: Span {
-            packet_id: 0,
-            number: 0,
-        },
-    };
-    let queued = queue.range(from..).next()?;
-    Some(*queued)
+/// The kept packets by their timestamps. Those that came in rising order, as numbers, stand in a
+/// row; the others, the strays, in a tree.
+#[derive(Drop)]
+pub(crate) struct Queue {
+    pub row: VecDeque<Queued>,
+    pub strays: BTreeSet<Queued>,
 }
 
-// The packet of the least timestamp, as a number.
-fn least(queue: &BTreeSet<Queued>) -> Option<Queued>
-    ensures { FindsLeast queue.now result }
-{
-    match queue.first() {
-        Some(queued) => Some(*queued),
-        None => None,
+impl Model for Queue {
+    ghost use Rattle.std.specs.Prelude.{List, ◌++◌};
+    ghost use Rattle.mmt_pool.specs.declared.queue.Queued.{Queued};
+    ghost use Rattle.mmt_pool.specs.Queue.{IsQueue};
+
+    ghost Value = { List Queued };
+
+    ghost view = { λ a. a.row.items ++ a.strays.keys };
+
+    ghost invariant = { λ a. IsQueue a.row.items a.strays.keys };
+}
+
+impl Queue {
+    ghost use Rattle.std.specs.Prelude.{◌≡◌, ◌<◌, ◌^◌, [], false, OnOk, OnErr};
+    ghost use Rattle.mmt_pool.specs.Queue.{has, IsShort, Puts, TakesOut};
+
+    /// An empty queue.
+    pub(crate) fn new(alloc: Global) -> Queue
+        ensures { result ≡ [] }
+    {
+        Queue {
+            row: VecDeque::new(alloc),
+            strays: BTreeSet::new(alloc),
+        }
     }
-}
 
-// The packet of the greatest timestamp, as a number.
-fn greatest(queue: &BTreeSet<Queued>) -> Option<Queued>
-    ensures { FindsGreatest queue.now result }
-{
-    match queue.last() {
-        Some(queued) => Some(*queued),
-        None => None,
+    /// Puts in a packet. It goes to the end of the row where its timestamp is, as a number, at
+    /// least that of the row's last, and otherwise among the strays.
+    ///
+    /// # Errors
+    ///
+    /// Want of memory; the queue then stays as it was.
+    pub(crate) fn put(&mut self, queued: Queued) -> Result<(), OutOfMemory>
+        requires absent { has self.old queued ≡ false }
+        ensures ok { OnOk result (Puts self.old queued self.new) }
+        ensures err { OnErr result (self.new ≡ self.old) }
+    {
+        if ends_by(&self.row, queued.time) {
+            self.row.push_back(queued)?;
+        } else {
+            self.strays.insert(queued)?;
+        }
+        Ok(())
     }
-}
 
-// The packet of the greatest timestamp, where this is, as a number, at least `first`.
-fn greatest_from(queue: &BTreeSet<Queued>, first: u32) -> Option<Queued>
-    ensures { FindsOneFrom queue.now first result }
-{
-    let queued = greatest(queue)?;
-    if first <= queued.time {
+    /// Takes out some packet whose timestamp plus the window is not after the clock; `None` where
+    /// there is none.
+    ///
+    /// For packets that came in the order of time it looks at the ends of the row alone.
+    pub(crate) fn take_out(&mut self, clock: Tick, window: u32) -> Option<Queued>
+        requires { clock.0 < 2 ^ 32 }
+        ensures { TakesOut self.old clock.0 window result self.new }
+    {
+        if let Some(place) = place_out(&self.row, clock, window) {
+            return self.row.remove(place);
+        }
+        let queued = first_out(&self.strays, clock, window)?;
+        let _ = self.strays.remove(&queued);
         Some(queued)
-    } else {
-        None
     }
-}
-
-// Some packet of the queue whose timestamp is, as a number, from `first` to `last`.
-fn between(queue: &BTreeSet<Queued>, first: u32, last: u32) -> Option<Queued>
-    ensures { FindsBetween queue.now first last result }
-{
-    let queued = first_from(queue, first)?;
-    if queued.time <= last {
-        Some(queued)
-    } else {
-        None
-    }
-}
-
-/// Some packet of the queue whose timestamp plus the window is not after the clock. Such timestamps
-/// are that of the clock minus the window and the 2^31 ticks before it, modulo 2^32.
-///
-/// Mostly the packet of the least timestamp tells: it is such a packet, or there is none.
-pub(crate) fn first_out(queue: &BTreeSet<Queued>, clock: Tick, window: u32) -> Option<Queued>
-    requires clock { clock.0 < 2 ^ 32 }
-    requires short { IsShort queue.now }
-    ensures { FindsOut queue.now clock.0 window result }
-{
-    let queued = match least(queue) {
-        Some(queued) => queued,
-        None => return None,
-    };
-    if !Tick(queued.time).plus(window).is_after(clock) {
-        return Some(queued);
-    }
-    let last = clock.ahead_of(Tick(window));
-    let first = Tick(last).plus(1 << 31).0;
-    if last < first {
-        return greatest_from(queue, first);
-    }
-    if last < queued.time {
-        return None;
-    }
-    between(queue, first, last)
 }

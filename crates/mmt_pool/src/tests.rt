@@ -151,3 +151,110 @@ fn pool_400000_packets(rt: HostRuntime) -> Result<(), Fail> {
     assert_eq!(rt; (pool.held(), pool.peak()), (0, 400_000));
     Ok(())
 }
+
+#[test]
+fn strays_expire_with_the_row(rt: HostRuntime) -> Result<(), Fail> {
+    let mut pool = Pool::new(rt.alloc(), 9)?;
+    let times: [u32; 6] = [100, 300, 200, 250, 300, 400];
+    let mut number = 0;
+    for time in times {
+        assert_eq!(rt;
+            store(&mut pool, time, Kind::Mpu, number, time, &[1], 0),
+            Ok(span(number))
+        );
+        number = number.wrapping_add(1);
+    }
+
+    // 200 and 250 came after 300.
+    let clock = Tick(1250);
+    assert_eq!(rt; pool.expire_one(clock, 1000), Some(span(0)));
+    assert_eq!(rt; pool.expire_one(clock, 1000), Some(span(2)));
+    assert_eq!(rt; pool.expire_one(clock, 1000), Some(span(3)));
+    assert_eq!(rt; pool.expire_one(clock, 1000), None);
+    assert_eq!(rt; pool.held(), 3);
+    expire(&mut pool, Tick(1400), 1000);
+    assert_eq!(rt; pool.held(), 0);
+    Ok(())
+}
+
+#[test]
+fn row_wraps_at_2_32(rt: HostRuntime) -> Result<(), Fail> {
+    let mut pool = Pool::new(rt.alloc(), 9)?;
+    let times: [u32; 4] = [0xFFFF_FF00, 0xFFFF_FFF0, 0x10, 0x20];
+    let mut number = 0;
+    for time in times {
+        assert_eq!(rt;
+            store(&mut pool, time, Kind::Mpu, number, time, &[1], 0),
+            Ok(span(number))
+        );
+        number = number.wrapping_add(1);
+    }
+    assert_eq!(rt; pool.expire_one(Tick(0xEFF), 0x1000), None);
+    assert_eq!(rt; pool.expire_one(Tick(0xF00), 0x1000), Some(span(0)));
+    assert_eq!(rt; pool.expire_one(Tick(0x1010), 0x1000), Some(span(1)));
+    assert_eq!(rt; pool.expire_one(Tick(0x1010), 0x1000), Some(span(2)));
+    assert_eq!(rt; pool.expire_one(Tick(0x1010), 0x1000), None);
+
+    // The row is empty, and begins anew.
+    assert_eq!(rt;
+        store(&mut pool, 0x30, Kind::Mpu, 4, 0x30, &[1], 0),
+        Ok(span(4))
+    );
+    assert_eq!(rt; pool.expire_one(Tick(0x1020), 0x1000), Some(span(3)));
+    assert_eq!(rt; pool.expire_one(Tick(0x1020), 0x1000), None);
+    assert_eq!(rt; pool.expire_one(Tick(0x1030), 0x1000), Some(span(4)));
+    Ok(())
+}
+
+#[test]
+fn takes_out_of_the_row_where_its_first_packet_stays(rt: HostRuntime) -> Result<(), Fail> {
+    let mut pool = Pool::new(rt.alloc(), 9)?;
+    let times: [u32; 3] = [50, 200, (1 << 31) + 200];
+    let mut number = 0;
+    for time in times {
+        assert_eq!(rt;
+            store(&mut pool, time, Kind::Mpu, number, time, &[1], 0),
+            Ok(span(number))
+        );
+        number = number.wrapping_add(1);
+    }
+
+    // Timestamps from 100 to 2^31 + 100 are out of the window.
+    let clock = Tick((1 << 31) + 100);
+    assert_eq!(rt; pool.expire_one(clock, 0), Some(span(1)));
+    assert_eq!(rt; pool.expire_one(clock, 0), None);
+
+    // And now those up to 10 and from 2^31 + 10 on.
+    assert_eq!(rt; pool.expire_one(Tick(10), 0), Some(span(2)));
+    assert_eq!(rt; pool.expire_one(Tick(10), 0), None);
+    assert_eq!(rt; pool.held(), 1);
+    Ok(())
+}
+
+// Run with one allocation that fails, this finds the pool as it was, and the packet is stored when it is
+// offered again.
+#[test]
+fn want_of_memory_leaves_the_pool(rt: HostRuntime) -> Result<(), Fail> {
+    let mut pool = Pool::new(rt.alloc(), 99)?;
+    let mut kept = 0;
+    for number in 0..99 {
+        let time = number ^ 1;
+        match store(&mut pool, 0, Kind::Mpu, number, time, &[1], 0) {
+            Ok(_) => {}
+            Err(refusal) => {
+                assert_eq!(rt; refusal, NotStored::OutOfMemory);
+                assert_eq!(rt; (pool.held(), pool.peak()), (kept, kept));
+                assert!(rt; pool.payload(span(number)).is_none());
+                assert_eq!(rt;
+                    store(&mut pool, 0, Kind::Mpu, number, time, &[1], 0),
+                    Ok(span(number))
+                );
+            }
+        }
+        kept = pool.held();
+        assert_eq!(rt; kept, number + 1);
+    }
+    expire(&mut pool, Tick(2000), 1000);
+    assert_eq!(rt; pool.held(), 0);
+    Ok(())
+}

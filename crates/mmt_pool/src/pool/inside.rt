@@ -1,6 +1,7 @@
 //! What a pool is made of.
 
 use crate::pool::{Pool, cut};
+use crate::queue::Queue;
 use std::test::Fail;
 
 // A further field doesn't compile.
@@ -14,7 +15,8 @@ fn fields_of_pool(rt: HostRuntime) -> Result<(), Fail> {
         bound,
         peak,
     } = Pool::new(rt.alloc(), 9)?;
-    assert_eq!(rt; (packets.len(), queue.len()), (0, 0));
+    let Queue { row, strays } = queue;
+    assert_eq!(rt; (packets.len(), row.len(), strays.len()), (0, 0, 0));
     assert_eq!(rt; (total, bound, peak), (0, 9, 0));
     Ok(())
 }

@@ -1,67 +1,51 @@
-use Rattle.std.proofs.Common.{refl, arith, ◌≡◌, ◌∙◌, Ok, Err}
+use Rattle.std.proofs.Common.{refl, arith, ◌≡◌, ◌≤◌, sym, Ok, Err}
+use Rattle.mmt_pool.specs.declared.types.Span.{Span}
 use Rattle.mmt_pool.specs.declared.types.NotStored.TheVariants as why
-use Rattle.mmt_pool.specs.Holding.{IsSound, IsKeepable}
-use Rattle.mmt_pool.specs.Doing.{of_packet, with_packet}
-use Rattle.mmt_pool.proofs.Kept.{stored-room, sound-stores, peak-stores}
-use Rattle.mmt_pool.proofs.Model.{refuses-stores, follows-stores}
+use Rattle.mmt_pool.specs.Holding.{IsSound}
+use Rattle.mmt_pool.specs.Doing.{of_packet, span_of, Stores}
+use Rattle.mmt_pool.proofs.Kept.{pool_outcome-late, keeps-stores, peak-stores}
+use Rattle.mmt_pool.proofs.Model.{follows-stores}
 use Rattle.mmt_pool.proofs.pool.Pool.store.Goals as goal
 
-pub returns-in-Some-clause-model : goal.returns-in-Some-clause-model
-returns-in-Some-clause-model c = follows-stores _ _ _ _ (Err c.in-Some.refusal) _ (refuses-stores _ _ _ (of_packet c.args.packet.now) c.in-Some.refusal c.in-Some.ensures.refuses)
+pub returns-then-is_after-clause-stores : goal.returns-then-is_after-clause-stores
+returns-then-is_after-clause-stores c = (pool_outcome-late _ _ _ (of_packet c.args.packet.now) (rw c.plus.ensures at (sym c.if-is_after.ensures)), refl, refl)
 
-pub returns-in-Some-clause-peak : goal.returns-in-Some-clause-peak
-returns-in-Some-clause-peak c = peak-stores _ _ _ _ (Err c.in-Some.refusal) _ c.refusal.ensures.sound (refuses-stores _ _ _ (of_packet c.args.packet.now) c.in-Some.refusal c.in-Some.ensures.refuses)
+pub returns-then-is_after-clause-bounded : goal.returns-then-is_after-clause-bounded
+returns-then-is_after-clause-bounded c = let s : IsSound c.args.self.now = rw (← c.self.view_is) c.self.invariant.sound in omega (arith, s.within_peak, s.within_bound)
 
-pub put-requires-clause-room : goal.put-requires-clause-room
-put-requires-clause-room c =
-    let same : c.in-Ok.payload ≡ c.args.packet.now.payload.now = c.in-Ok.ensures ∙ c.requires.payload.same in
-    rw same (stored-room c.args.self.now _ _ (of_packet c.args.packet.now) c.in_default.ensures.refuses)
+pub returns-then-is_after-clause-in_order : goal.returns-then-is_after-clause-in_order
+returns-then-is_after-clause-in_order c = let s : IsSound c.args.self.now = rw (← c.self.view_is) c.self.invariant.sound in s.in_order
 
-pub put-requires-clause-short : goal.put-requires-clause-short
-put-requires-clause-short c =
-    let same : c.in-Ok.payload ≡ c.args.packet.now.payload.now = c.in-Ok.ensures ∙ c.requires.payload.same in
-    rw same (omega (arith, c.requires.payload.fits, c.requires.short))
+pub returns-then-is_after-clause-peak : goal.returns-then-is_after-clause-peak
+returns-then-is_after-clause-peak c =
+    let s : IsSound c.args.self.now = rw (← c.self.view_is) c.self.invariant.sound in
+    peak-stores c.args.self.now c.args.clock.0 c.args.delay (of_packet c.args.packet.now) (Err (why.Late c.args.clock)) c.args.self.now s (pool_outcome-late _ _ _ (of_packet c.args.packet.now) (rw c.plus.ensures at (sym c.if-is_after.ensures)), refl, refl)
 
-pub returns-in-Ok-put-clause-stores : goal.returns-in-Ok-put-clause-stores
-returns-in-Ok-put-clause-stores c =
-    let same : c.in-Ok.payload ≡ c.args.packet.now.payload.now = c.in-Ok.ensures ∙ c.requires.payload.same in
-    (c.in_default.ensures.refuses, refl, rw same at c.in-Ok-put.ensures.ok)
+pub returns-then-is_after-clause-model : goal.returns-then-is_after-clause-model
+returns-then-is_after-clause-model c = follows-stores c.args.self.now c.args.clock.0 c.args.delay (of_packet c.args.packet.now) (Err (why.Late c.args.clock)) c.args.self.now (pool_outcome-late _ _ _ (of_packet c.args.packet.now) (rw c.plus.ensures at (sym c.if-is_after.ensures)), refl, refl)
 
-pub returns-in-Ok-put-clause-bounded : goal.returns-in-Ok-put-clause-bounded
-returns-in-Ok-put-clause-bounded c =
-    let same : c.in-Ok.payload ≡ c.args.packet.now.payload.now = c.in-Ok.ensures ∙ c.requires.payload.same in
-    let new_is : c.put.new.self ≡ with_packet c.args.self.now (of_packet c.args.packet.now) = rw same at c.in-Ok-put.ensures.ok in
-    let k : IsKeepable (of_packet c.args.packet.now) = rw same at c.put.ensures.keepable in
-    let s : IsSound c.put.new.self = sound-stores _ _ _ (of_packet c.args.packet.now) (Ok _) _ c.refusal.ensures.sound k (c.in_default.ensures.refuses, refl, new_is) in
-    omega (arith, s.within_peak, s.within_bound)
+pub returns-in-Ok-clause-stores : goal.returns-in-Ok-clause-stores
+returns-in-Ok-clause-stores c = keeps-stores _ _ _ (of_packet c.args.packet.now) (Ok _) (span_of (of_packet c.args.packet.now)) _ (rw c.plus.ensures at (sym c.if-is_after.ensures)) refl c.in-Ok.ensures.keeps
 
-pub returns-in-Ok-put-clause-in_order : goal.returns-in-Ok-put-clause-in_order
-returns-in-Ok-put-clause-in_order c =
-    let same : c.in-Ok.payload ≡ c.args.packet.now.payload.now = c.in-Ok.ensures ∙ c.requires.payload.same in
-    let new_is : c.put.new.self ≡ with_packet c.args.self.now (of_packet c.args.packet.now) = rw same at c.in-Ok-put.ensures.ok in
-    let k : IsKeepable (of_packet c.args.packet.now) = rw same at c.put.ensures.keepable in
-    (sound-stores _ _ _ (of_packet c.args.packet.now) (Ok _) _ c.refusal.ensures.sound k (c.in_default.ensures.refuses, refl, new_is)).in_order
+pub returns-in-Ok-clause-peak : goal.returns-in-Ok-clause-peak
+returns-in-Ok-clause-peak c =
+    let d : Stores c.args.self.now c.args.clock.0 c.args.delay (of_packet c.args.packet.now) (Ok (span_of (of_packet c.args.packet.now))) c.keep.new.self = keeps-stores _ _ _ (of_packet c.args.packet.now) (Ok _) (span_of (of_packet c.args.packet.now)) _ (rw c.plus.ensures at (sym c.if-is_after.ensures)) refl c.in-Ok.ensures.keeps in
+    peak-stores _ _ _ (of_packet c.args.packet.now) (Ok _) _ c.keep.ensures.was_sound d
 
-pub returns-in-Ok-put-clause-model : goal.returns-in-Ok-put-clause-model
-returns-in-Ok-put-clause-model c =
-    let same : c.in-Ok.payload ≡ c.args.packet.now.payload.now = c.in-Ok.ensures ∙ c.requires.payload.same in
-    let new_is : c.put.new.self ≡ with_packet c.args.self.now (of_packet c.args.packet.now) = rw same at c.in-Ok-put.ensures.ok in
-    follows-stores _ _ _ (of_packet c.args.packet.now) (Ok _) _ (c.in_default.ensures.refuses, refl, new_is)
+pub returns-in-Ok-clause-model : goal.returns-in-Ok-clause-model
+returns-in-Ok-clause-model c =
+    let d : Stores c.args.self.now c.args.clock.0 c.args.delay (of_packet c.args.packet.now) (Ok (span_of (of_packet c.args.packet.now))) c.keep.new.self = keeps-stores _ _ _ (of_packet c.args.packet.now) (Ok _) (span_of (of_packet c.args.packet.now)) _ (rw c.plus.ensures at (sym c.if-is_after.ensures)) refl c.in-Ok.ensures.keeps in
+    follows-stores _ _ _ (of_packet c.args.packet.now) (Ok _) _ d
 
-pub returns-in-Ok-put-clause-peak : goal.returns-in-Ok-put-clause-peak
-returns-in-Ok-put-clause-peak c =
-    let same : c.in-Ok.payload ≡ c.args.packet.now.payload.now = c.in-Ok.ensures ∙ c.requires.payload.same in
-    let new_is : c.put.new.self ≡ with_packet c.args.self.now (of_packet c.args.packet.now) = rw same at c.in-Ok-put.ensures.ok in
-    peak-stores _ _ _ (of_packet c.args.packet.now) (Ok _) _ c.refusal.ensures.sound (c.in_default.ensures.refuses, refl, new_is)
-
-pub returns-in-Err-put-clause-model : goal.returns-in-Err-put-clause-model
-returns-in-Err-put-clause-model c = follows-stores _ _ _ (of_packet c.args.packet.now) (Err why.OutOfMemory) _ (c.in_default.ensures.refuses, c.in-Err-put.ensures.err)
-
-pub returns-in-Err-put-clause-peak : goal.returns-in-Err-put-clause-peak
-returns-in-Err-put-clause-peak c = peak-stores _ _ _ (of_packet c.args.packet.now) (Err why.OutOfMemory) _ c.refusal.ensures.sound (c.in_default.ensures.refuses, c.in-Err-put.ensures.err)
-
-pub returns-in-Err-clause-model : goal.returns-in-Err-clause-model
-returns-in-Err-clause-model c = follows-stores _ _ _ (of_packet c.args.packet.now) (Err why.OutOfMemory) _ (c.in_default.ensures.refuses, refl)
+pub returns-in-Err-clause-stores : goal.returns-in-Err-clause-stores
+returns-in-Err-clause-stores c = keeps-stores _ _ _ (of_packet c.args.packet.now) (Err c.in-Err.refusal) (span_of (of_packet c.args.packet.now)) _ (rw c.plus.ensures at (sym c.if-is_after.ensures)) refl c.in-Err.ensures.keeps
 
 pub returns-in-Err-clause-peak : goal.returns-in-Err-clause-peak
-returns-in-Err-clause-peak c = peak-stores _ _ _ (of_packet c.args.packet.now) (Err why.OutOfMemory) _ c.refusal.ensures.sound (c.in_default.ensures.refuses, refl)
+returns-in-Err-clause-peak c =
+    let d : Stores c.args.self.now c.args.clock.0 c.args.delay (of_packet c.args.packet.now) (Err c.in-Err.refusal) c.keep.new.self = keeps-stores _ _ _ (of_packet c.args.packet.now) (Err c.in-Err.refusal) (span_of (of_packet c.args.packet.now)) _ (rw c.plus.ensures at (sym c.if-is_after.ensures)) refl c.in-Err.ensures.keeps in
+    peak-stores _ _ _ (of_packet c.args.packet.now) (Err c.in-Err.refusal) _ c.keep.ensures.was_sound d
+
+pub returns-in-Err-clause-model : goal.returns-in-Err-clause-model
+returns-in-Err-clause-model c =
+    let d : Stores c.args.self.now c.args.clock.0 c.args.delay (of_packet c.args.packet.now) (Err c.in-Err.refusal) c.keep.new.self = keeps-stores _ _ _ (of_packet c.args.packet.now) (Err c.in-Err.refusal) (span_of (of_packet c.args.packet.now)) _ (rw c.plus.ensures at (sym c.if-is_after.ensures)) refl c.in-Err.ensures.keeps in
+    follows-stores _ _ _ (of_packet c.args.packet.now) (Err c.in-Err.refusal) _ d
