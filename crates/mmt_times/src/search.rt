@@ -1,8 +1,8 @@
 //! Looking for the extended entries of one MPU number after another.
 
-ghost use Rattle.std.specs.Prelude.{◌≡◌, ◌≤◌, ℕ};
+ghost use Rattle.std.specs.Prelude.{◌≡◌, ◌<◌, ◌≤◌, ℕ, IfSome};
 ghost use Rattle.mmt_times.specs.NamesOf.{for_mpu};
-ghost use Rattle.mmt_times.specs.NamesLeft.{candidates_left};
+ghost use Rattle.mmt_times.specs.NamesLeft.{candidates_left, size_of};
 
 use crate::contents::{content_of, first_candidate};
 use crate::parts_left::Candidates;
@@ -22,7 +22,7 @@ pub(crate) struct Search<'a> {
 
 /// All of these entries, of which none was passed.
 pub(crate) fn search_of<'a>(whole: Candidates<'a>) -> Search<'a>
-    ensures { result.whole ≡ whole }
+    ensures { result.whole ≡ whole.entry }
 {
     Search {
         whole,
@@ -31,24 +31,40 @@ pub(crate) fn search_of<'a>(whole: Candidates<'a>) -> Search<'a>
     }
 }
 
-/// Passes the entries below an MPU number, and gives those from the first other one on.
-fn behind_lower<'a>(mpu: u32, candidates: Candidates<'a>) -> Candidates<'a>
-    ensures { (number : ℕ) → mpu ≤ number → for_mpu number (candidates_left result) ≡ for_mpu number (candidates_left candidates) }
+/// The entries behind the first, where that is below an MPU number, or the same entries with the first
+/// of another descriptor at hand; `None` where neither is so.
+fn behind_first<'a>(mpu: u32, candidates: &Candidates<'a>) -> Option<Candidates<'a>>
+    ensures same { IfSome result (λ rest. (number : ℕ) → mpu ≤ number → for_mpu number (candidates_left rest) ≡ for_mpu number (candidates_left candidates.now)) }
+    ensures less { IfSome result (λ rest. size_of rest < size_of candidates.now) }
 {
-    let mut rest = candidates;
-    loop {
-        if let Some((candidate, content)) = first_candidate(&rest.content) {
-            if candidate.mpu.mpu >= mpu {
-                return rest;
-            }
-            rest.content = content;
-        } else {
-            let Some(descriptor) = rest.descriptors.next() else {
-                return rest;
-            };
-            rest.content = content_of(rest.configured, &descriptor);
+    if let Some((candidate, content)) = first_candidate(&candidates.content) {
+        if candidate.mpu.mpu >= mpu {
+            return None;
         }
+        return Some(Candidates {
+            configured: candidates.configured,
+            content,
+            descriptors: candidates.descriptors,
+        });
     }
+    let mut descriptors = candidates.descriptors;
+    let descriptor = descriptors.next()?;
+    Some(Candidates {
+        configured: candidates.configured,
+        content: content_of(candidates.configured, &descriptor),
+        descriptors,
+    })
+}
+
+/// Passes the entries below an MPU number, and gives those from the first other one on.
+fn behind_lower<'a>(mpu: u32, candidates: &Candidates<'a>) -> Candidates<'a>
+    ensures { (number : ℕ) → mpu ≤ number → for_mpu number (candidates_left result) ≡ for_mpu number (candidates_left candidates.now) }
+{
+    let mut rest = *candidates;
+    while let Some(after) = behind_first(mpu, &rest) {
+        rest = after;
+    }
+    rest
 }
 
 impl<'a> Search<'a> {
@@ -62,7 +78,7 @@ impl<'a> Search<'a> {
         } else {
             self.rest
         };
-        let rest = behind_lower(mpu, from);
+        let rest = behind_lower(mpu, &from);
         *self = Search {
             whole: self.whole,
             rest,
