@@ -1,5 +1,5 @@
 -- No message is whole whose packets break off before its first part or after its last part.
-use Rattle.std.proofs.Common.{◌≡◌, ℕ, zero, suc, ◌+◌, ◌-◌, ◌%◌, ◌^◌, ◌<◌, ◌≤◌, List, [], map, length, refl, ap, sym, ◌∙◌, Option, Some, None, arith}
+use Rattle.std.proofs.Common.{◌≡◌, ℕ, zero, suc, ◌-◌, ◌^◌, ◌<◌, List, [], map, length, refl, ap, sym, ◌∙◌, Option, Some, None, arith}
 use Rattle.std.specs.List.{AllByRecursion}
 use Rattle.mmt_model.specs.declared.keys.Part.{Part}
 use Rattle.mmt_model.specs.declared.keys.Part.TheVariants as parts

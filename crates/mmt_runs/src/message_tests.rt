@@ -154,9 +154,7 @@ fn is_whole_at_the_last(runs: &Runs, pool: &mut Pool, order: &[u32; 9]) -> bool 
 }
 
 #[test]
-fn a_long_message_is_whole_with_its_last_packet_in_any_order(
-    rt: HostRuntime,
-) -> Result<(), Fail> {
+fn a_long_message_is_whole_with_its_last_packet_in_any_order(rt: HostRuntime) -> Result<(), Fail> {
     let runs = Runs::new(rt.alloc());
     let orders: [[u32; 9]; 6] = [
         [100, 101, 102, 103, 104, 105, 106, 107, 108],

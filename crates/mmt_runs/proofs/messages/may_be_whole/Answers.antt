@@ -1,7 +1,7 @@
-use Rattle.std.proofs.Common.{◌≡◌, ◌<◌, ◌^◌, map, refl, sym, ◌∙◌, Some, None, arith}
+use Rattle.std.proofs.Common.{◌<◌, ◌^◌, map, sym, arith}
 use Rattle.mmt_pool.specs.Holding.{held}
 use Rattle.mmt_runs.specs.Reading.{heard}
-use Rattle.mmt_runs.proofs.Sides.{Sided, back_none, back_some, on_none_left, on_some, no_sides, part_sided}
+use Rattle.mmt_runs.proofs.Sides.{back_none, back_some, on_none_left, on_some, no_sides, part_sided}
 use Rattle.mmt_runs.proofs.messages.may_be_whole.Goals as goal
 
 pub returns-in-None : goal.returns-in-None
