@@ -3,6 +3,7 @@ pub mod LoneParts
 pub mod WalkSteps
 pub mod Walked
 pub mod Whole
+pub mod Sides
 pub mod Linking
 pub mod UnitSizes
 pub mod Held

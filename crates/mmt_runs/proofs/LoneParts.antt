@@ -1,5 +1,5 @@
 -- The lone message of a payload, or the part of one, as a link of a run.
-use Rattle.std.proofs.Common.{◌≡◌, ℕ, ◌+◌, ◌≤◌, Bool, true, false, ◌||◌, ◌==◌, ◌%◌, ◌/◌, List, [], ◌∷◌, map, length, refl, ap, Option, Some, None, option_map, arith, subst}
+use Rattle.std.proofs.Common.{◌≡◌, ℕ, ◌+◌, ◌≤◌, Bool, true, false, ◌||◌, ◌==◌, ◌%◌, ◌/◌, List, [], ◌∷◌, map, length, refl, ap, sym, ◌∙◌, Option, Some, None, option_map, arith, subst}
 use Rattle.std.specs.Prelude.{Result, Ok, Err}
 use Rattle.std.specs.Int.{w8}
 use Rattle.std.proofs.lemmas.Bool.{eqb-true}
@@ -108,6 +108,24 @@ is_lone r v bytes more is n e = rw is (go v.messages n e)
     go (m ∷ o ∷ ms) n e = absurd (omega arith)
 
 -- ---- the packet of a span
+
+-- a kept packet by its kind and its payload
+pub signals_none : (o : Option Kept) → option_map (λ p. p.kind) o ≡ None → signalling_at o ≡ None
+signals_none None e = refl
+signals_none (Some p) e = absurd cc
+
+pub signals_other : (o : Option Kept) (k : Kind) → option_map (λ p. p.kind) o ≡ Some k → (k ≡ kinds.Signalling → ⊥) → signalling_at o ≡ None
+signals_other None k e n = refl
+signals_other (Some p) k e n = let same : p.kind ≡ k = cc in go p.kind (λ f. n (sym same ∙ f))
+  where
+    go : (j : Kind) → (j ≡ kinds.Signalling → ⊥) → if_signalling j p.payload ≡ None
+    go kinds.Mpu m = refl
+    go kinds.Generic m = refl
+    go kinds.Signalling m = absurd (m refl)
+
+pub signals_at : (o : Option Kept) → option_map (λ p. p.kind) o ≡ Some kinds.Signalling → signalling_at o ≡ option_map (λ p. p.payload) o
+signals_at None e = refl
+signals_at (Some p) e = let same : p.kind ≡ kinds.Signalling = cc in ap (λ k. if_signalling k p.payload) same
 
 media_lone : (r : Result Mpu (Refused MpuWhy)) → lone_part (media_of r) ≡ None
 unfolding lone_part

@@ -141,7 +141,7 @@ inner_is (Some (parts.First, b)) bytes e = absurd cc
 inner_is (Some (parts.Middle, b)) bytes e = (b, refl)
 inner_is (Some (parts.Last, b)) bytes e = absurd cc
 
-end_is : (o : Option (Part × List ℕ)) (bytes : List ℕ) → link_of o ≡ Link.End bytes → IsLast o
+pub end_is : (o : Option (Part × List ℕ)) (bytes : List ℕ) → link_of o ≡ Link.End bytes → IsLast o
 end_is None bytes e = absurd cc
 end_is (Some (parts.Whole, b)) bytes e = absurd cc
 end_is (Some (parts.First, b)) bytes e = absurd cc

@@ -75,6 +75,40 @@ first_from number (Some (parts.Last, bytes)) earlier = earlier
 unfoldable pub first_of : List Heard → ℕ → ℕ → ℕ → Option (ℕ × List ℕ)
 first_of kept packet_id most number = first_from number (lone_at (packet_at kept packet_id number)) (first_before kept packet_id most (number_before number))
 
+-- where to look for the first part after a look at this packet: nowhere once it is the first part, or one packet before; `None` where no first part can be found
+abbrev pub back_by : ℕ → Option (Part × List ℕ) → Option (Option ℕ)
+back_by number None = None
+back_by number (Some (parts.Whole, bytes)) = None
+back_by number (Some (parts.First, bytes)) = Some None
+back_by number (Some (parts.Middle, bytes)) = Some (Some (number_before number))
+back_by number (Some (parts.Last, bytes)) = None
+
+-- the same for the packet where to look, if the first part was not reached before
+unfoldable pub back_from : List Heard → ℕ → Option ℕ → Option (Option ℕ)
+back_from kept packet_id None = Some None
+back_from kept packet_id (Some number) = back_by number (lone_at (packet_at kept packet_id number))
+
+-- where to look for the last part after a look at this packet: nowhere once it is the last part, or one packet after; `None` where no last part can be found
+abbrev pub on_by : ℕ → Option (Part × List ℕ) → Option (Option ℕ)
+on_by number None = None
+on_by number (Some (parts.Whole, bytes)) = None
+on_by number (Some (parts.First, bytes)) = None
+on_by number (Some (parts.Middle, bytes)) = Some (Some (next_number number))
+on_by number (Some (parts.Last, bytes)) = Some None
+
+-- the same for the packet where to look, if the last part was not reached before
+unfoldable pub on_from : List Heard → ℕ → Option ℕ → Option (Option ℕ)
+on_from kept packet_id None = Some None
+on_from kept packet_id (Some number) = on_by number (lone_at (packet_at kept packet_id number))
+
+-- where to look for the first part and for the last part of the message that a part belongs to; `None` where the packet is no part
+abbrev pub sides_by : ℕ → Option (Part × List ℕ) → Option (Option ℕ × Option ℕ)
+sides_by number None = None
+sides_by number (Some (parts.Whole, bytes)) = None
+sides_by number (Some (parts.First, bytes)) = Some (None, Some (next_number number))
+sides_by number (Some (parts.Middle, bytes)) = Some (Some (number_before number), Some (next_number number))
+sides_by number (Some (parts.Last, bytes)) = Some (Some (number_before number), None)
+
 -- how many packets the rest of a run has, and how many bytes, or there is no such rest
 abbrev pub Ends : List Heard → ℕ → ℕ → ℕ → Option (ℕ × ℕ) → Type 0
 Ends kept packet_id most number None = rest_of_run signal_link kept packet_id most number ≡ None

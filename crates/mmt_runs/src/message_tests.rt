@@ -123,3 +123,66 @@ fn messages_side_by_side_are_kept_apart(rt: HostRuntime) -> Result<(), Fail> {
     assert!(rt; is_none(&runs, &pool, span(0, 13)));
     Ok(())
 }
+
+// A message of nine parts whose packets are kept in this order is none until all of them are kept, and
+// is then found from each of them.
+fn is_whole_at_the_last(runs: &Runs, pool: &mut Pool, order: &[u32; 9]) -> bool {
+    for (place, number) in order.iter().enumerate() {
+        let payload: &[u8] = match *number {
+            100 => b"\x40\x00first",
+            108 => b"\xc0\x00last",
+            _ => b"\x80\x00-",
+        };
+        if !keep(pool, 0, *number, payload) {
+            return false;
+        }
+        if runs.whole_message(pool, span(0, *number)).is_some() != (place == 8) {
+            return false;
+        }
+    }
+    for number in order {
+        match runs.whole_message(pool, span(0, *number)) {
+            Some(message) => {
+                if message.length() != 16 {
+                    return false;
+                }
+            }
+            None => return false,
+        }
+    }
+    true
+}
+
+#[test]
+fn a_long_message_is_whole_with_its_last_packet_in_any_order(rt: HostRuntime) -> Result<(), Fail> {
+    let runs = Runs::new(rt.alloc());
+    let orders: [[u32; 9]; 6] = [
+        [100, 101, 102, 103, 104, 105, 106, 107, 108],
+        [108, 107, 106, 105, 104, 103, 102, 101, 100],
+        [101, 103, 105, 107, 100, 102, 104, 106, 108],
+        [100, 102, 104, 106, 108, 107, 105, 103, 101],
+        [100, 108, 101, 107, 102, 106, 103, 105, 104],
+        [104, 102, 106, 101, 107, 100, 108, 103, 105],
+    ];
+    for order in &orders {
+        let mut pool = Pool::new(rt.alloc(), 100)?;
+        assert!(rt; is_whole_at_the_last(&runs, &mut pool, order));
+    }
+    Ok(())
+}
+
+#[test]
+fn a_message_breaks_off_at_a_packet_that_is_no_part_of_it(rt: HostRuntime) -> Result<(), Fail> {
+    let runs = Runs::new(rt.alloc());
+    let mut pool = Pool::new(rt.alloc(), 100)?;
+    // A last part in front of middle parts, and a first part behind them.
+    assert!(rt; keep(&mut pool, 0, 7, b"\xc0\x00a"));
+    assert!(rt; keep(&mut pool, 0, 8, b"\x80\x00b"));
+    assert!(rt; keep(&mut pool, 0, 9, b"\x80\x00c"));
+    assert!(rt; keep(&mut pool, 0, 10, b"\x40\x00d"));
+    assert!(rt; is_none(&runs, &pool, span(0, 7)));
+    assert!(rt; is_none(&runs, &pool, span(0, 8)));
+    assert!(rt; is_none(&runs, &pool, span(0, 9)));
+    assert!(rt; is_none(&runs, &pool, span(0, 10)));
+    Ok(())
+}

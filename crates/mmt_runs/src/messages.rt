@@ -1,13 +1,13 @@
 //! A message in parts, found from any of its packets and lent part by part.
 
-ghost use Rattle.std.specs.Prelude.{◌≡◌, ℕ, ◌+◌, ◌<◌, ◌^◌, List, length, map, option_map, option_to_list, IfSome};
+ghost use Rattle.std.specs.Prelude.{◌≡◌, ℕ, ◌+◌, ◌<◌, ◌^◌, List, [], length, map, option_map, option_to_list, false, IfSome};
 ghost use Rattle.mmt_model.specs.Packets.{Heard};
 ghost use Rattle.mmt_model.specs.Units.{packet_at, part_messages};
 ghost use Rattle.mmt_pool.specs.Holding.{held, packet_at as kept_at};
 ghost use Rattle.mmt_sig.specs.PayloadReading.{payload_of};
 ghost use Rattle.mmt_runs.specs.Reading.{heard, signals_by};
 ghost use Rattle.mmt_runs.specs.Messages.{messages_with, message_of, short_bytes};
-ghost use Rattle.mmt_runs.specs.MessageParts.{signalling_at, lone_part as part_by, lone_at, part_bytes, first_before, first_of, Ends};
+ghost use Rattle.mmt_runs.specs.MessageParts.{signalling_at, lone_part as part_by, lone_at, part_bytes, first_before, first_of, sides_by, back_from, on_from, Ends};
 
 use crate::runs::Runs;
 use mmt_model::Part;
@@ -40,11 +40,14 @@ fn signalling_bytes<'a>(pool: &'a Pool, span: Span) -> Option<&'a [u8]>
     ensures bytes { option_map (λ x. x.now) result ≡ signalling_at (kept_at pool.now.kept span.packet_id span.number) }
     ensures short { IfSome result (λ x. length x.now < 2 ^ 31) }
 {
-    match pool.kind(span) {
-        None => None,
-        Some(Kind::Mpu) => None,
-        Some(Kind::Generic) => None,
-        Some(Kind::Signalling) => pool.payload(span),
+    let (kind, bytes) = match pool.packet(span) {
+        Some(found) => found,
+        None => return None,
+    };
+    match kind {
+        Kind::Mpu => None,
+        Kind::Generic => None,
+        Kind::Signalling => Some(bytes),
     }
 }
 
@@ -156,12 +159,92 @@ impl<'a> Model for MessageParts<'a> {
     ghost invariant = { λ a. a.total ≡ length (joined (all_parts (map heard a.pool.now.kept) a.packet_id a.left a.bytes.now a.number)) };
 }
 
+// Where to look for the first part and for the last part of the message that the packet of this
+// span is a part of.
+fn sides_of(pool: &Pool, span: Span) -> Option<(Option<u32>, Option<u32>)>
+    ensures { result ≡ sides_by span.number (lone_at (packet_at (map heard pool.now.kept) span.packet_id span.number)) }
+{
+    let before = span.number.wrapping_sub(1);
+    let after = span.number.wrapping_add(1);
+    match lone_part(pool, span) {
+        None => None,
+        Some((Part::Whole, _)) => None,
+        Some((Part::First, _)) => Some((None, Some(after))),
+        Some((Part::Middle, _)) => Some((Some(before), Some(after))),
+        Some((Part::Last, _)) => Some((Some(before), None)),
+    }
+}
+
+// Looks at one packet for the first part of a message, and says where to look after it.
+fn step_back(pool: &Pool, packet_id: u16, before: Option<u32>) -> Option<Option<u32>>
+    ensures { result ≡ back_from (map heard pool.now.kept) packet_id before }
+{
+    let number = match before {
+        Some(number) => number,
+        None => return Some(None),
+    };
+    match lone_part(pool, Span { packet_id, number }) {
+        None => None,
+        Some((Part::Whole, _)) => None,
+        Some((Part::First, _)) => Some(None),
+        Some((Part::Middle, _)) => Some(Some(number.wrapping_sub(1))),
+        Some((Part::Last, _)) => None,
+    }
+}
+
+// Looks at one packet for the last part of a message, and says where to look after it.
+fn step_on(pool: &Pool, packet_id: u16, after: Option<u32>) -> Option<Option<u32>>
+    ensures { result ≡ on_from (map heard pool.now.kept) packet_id after }
+{
+    let number = match after {
+        Some(number) => number,
+        None => return Some(None),
+    };
+    match lone_part(pool, Span { packet_id, number }) {
+        None => None,
+        Some((Part::Whole, _)) => None,
+        Some((Part::First, _)) => None,
+        Some((Part::Middle, _)) => Some(Some(number.wrapping_add(1))),
+        Some((Part::Last, _)) => Some(None),
+    }
+}
+
+// Whether the message of the packet of this span may be whole. The packets before it and behind it
+// are looked at in turn, one of each, up to the first where the message breaks off. So at most twice
+// as many are looked at as its shorter side has up to there, and two more.
+fn may_be_whole(pool: &Pool, span: Span) -> bool
+    ensures { result ≡ false → messages_with (map heard pool.now.kept) span.packet_id span.number ≡ [] }
+{
+    let most = pool.held();
+    let (mut before, mut after) = match sides_of(pool, span) {
+        Some(sides) => sides,
+        None => return false,
+    };
+    for _step in 0..most {
+        before = match step_back(pool, span.packet_id, before) {
+            Some(before) => before,
+            None => return false,
+        };
+        after = match step_on(pool, span.packet_id, after) {
+            Some(after) => after,
+            None => return false,
+        };
+        if before.is_none() && after.is_none() {
+            return true;
+        }
+    }
+    true
+}
+
 // The message that the packet of this span is a part of.
 fn whole_message_of<'a>(pool: &'a Pool, span: Span) -> Option<MessageParts<'a>>
     ensures message { messages_with (map heard pool.now.kept) span.packet_id span.number ≡ option_to_list (option_map message_of result) }
     ensures short { (h : Heard) → h.packet_id ≡ span.packet_id → h.number ≡ span.number
         → part_messages (map heard pool.now.kept) h ≡ short_bytes (option_to_list (option_map message_of result)) }
 {
+    if !may_be_whole(pool, span) {
+        return None;
+    }
     // Each part has two bytes and more of payload, so there are fewer parts than bytes.
     let most = pool.held();
     let (first, bytes) = match first_part(pool, span, most) {

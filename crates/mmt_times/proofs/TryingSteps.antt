@@ -1,5 +1,6 @@
 -- Trying the extended entries for an MPU in order.
-use Rattle.std.proofs.Common.{◌≡◌, ℕ, Bool, List, [], ◌∷◌, Some, None, refl, ap}
+use Rattle.std.proofs.Common.{◌≡◌, ◌<◌, ◌≤◌, ◌==◌, ℕ, Bool, false, List, [], ◌∷◌, Some, None, refl, ap, arith}
+use Rattle.std.proofs.lemmas.Bool.{ne_eqb}
 use Rattle.mmt_times.specs.declared.times_why.TimesWhy.TheVariants as why
 use Rattle.mmt_times.specs.Times.{unit_times, in_range}
 use Rattle.mmt_times.specs.AuReading.{aus_from}
@@ -34,3 +35,9 @@ entry_gives es more id p x ts e some = ap (names_of_tried id p) (given_tried p.t
 pub entry_refused : (es rest : List ExtendedEntry) (id : ℕ) (p : PairValue) (x : ExtendedEntry) → for_mpu p.mpu es ≡ x ∷ for_mpu p.mpu rest → times_by p.time x ≡ None
     → names_of_pair es id p ≡ IsRefused x.at why.Range ∷ names_of_pair rest id p
 entry_refused es rest id p x e none = ap (names_of_tried id p) (refused_tried p.time (for_mpu p.mpu es) (for_mpu p.mpu rest) x e none)
+
+-- an entry below the MPU number that is asked for is none of its entries
+pub lower_passed : (es more : List ExtendedEntry) (x : ExtendedEntry) (mpu number : ℕ) → es ≡ x ∷ more → x.mpu.mpu < mpu → mpu ≤ number → for_mpu number more ≡ for_mpu number es
+lower_passed es more x mpu number e below above =
+    let other : (x.mpu.mpu == number) ≡ false = ne_eqb x.mpu.mpu number (λ same. absurd (omega (arith, below, above, same))) in
+    rw (e, other) refl

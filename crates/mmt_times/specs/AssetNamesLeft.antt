@@ -5,13 +5,13 @@ use Rattle.mmt_mpt.specs.DescriptorsLeft.{descriptors_left}
 use Rattle.mmt_times.specs.declared.name_iterators.LocationNames.{LocationNames}
 use Rattle.mmt_times.specs.declared.name_iterators.HereNames.{HereNames}
 use Rattle.mmt_times.specs.declared.name_iterators.AssetNames.{AssetNames}
-use Rattle.mmt_times.specs.NamesOf.{NamedValue, names_of_pair, names_at, extended_entries}
-use Rattle.mmt_times.specs.NamesLeft.{ids_left, refusals_left, pairs_left}
+use Rattle.mmt_times.specs.NamesOf.{NamedValue, names_of_pair, names_at}
+use Rattle.mmt_times.specs.NamesLeft.{ids_left, refusals_left, pairs_left, candidates_left}
 use Rattle.mmt_times.specs.TryingLeft.{or_nothing}
 
 -- the names that an iterator has yet to give at its packet id
 abbrev pub location_left : LocationNames → List NamedValue
-location_left s = or_nothing s.trying ++ flat_map (names_of_pair (flat_map (extended_entries s.configured) (descriptors_left s.descriptors)) s.packet_id) (pairs_left s.pairs)
+location_left s = or_nothing s.trying ++ flat_map (names_of_pair (candidates_left s.search.whole) s.packet_id) (pairs_left s.pairs)
 
 -- the names that an iterator has yet to give at the packet ids of its asset
 abbrev pub here_left : HereNames → List NamedValue

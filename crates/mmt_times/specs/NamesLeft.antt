@@ -1,5 +1,5 @@
 -- What contracts see of the iterators over packet ids, refusals, pairs and the entries of extended descriptors.
-use Rattle.std.specs.Prelude.{ℕ, List, ◌++◌}
+use Rattle.std.specs.Prelude.{ℕ, ◌+◌, List, ◌++◌, length}
 use Rattle.std.specs.List.{flat_map}
 use Rattle.mmt_mpt.specs.DescriptorsLeft.{descriptors_left}
 use Rattle.mmt_mpt.specs.LocationsLeft.{locations_left}
@@ -26,3 +26,7 @@ pairs_left s = pairs_from s.rest.now ++ flat_map pairs_of (descriptors_left s.de
 -- the entries that an iterator has yet to give
 abbrev pub candidates_left : Candidates → List ExtendedEntry
 candidates_left s = content_left s.content ++ flat_map (extended_entries s.configured) (descriptors_left s.descriptors)
+
+-- how many entries and descriptors an iterator has yet to go over
+abbrev pub size_of : Candidates → ℕ
+size_of s = length (candidates_left s) + length (descriptors_left s.descriptors)

@@ -6,9 +6,10 @@ ghost use Rattle.mmt_mpt.specs.DescriptorsLeft.{descriptors_left};
 ghost use Rattle.mmt_times.specs.NamesOf.{names_at, names_of_asset};
 ghost use Rattle.mmt_times.specs.AssetNamesLeft.{location_left, asset_or_nothing};
 
-use crate::contents::no_pairs;
+use crate::contents::{no_content, no_pairs};
 use crate::name_iterators::{AssetNames, HereNames, LocationNames};
-use crate::parts_left::{Ids, Pairs, Refusals};
+use crate::parts_left::{Candidates, Ids, Pairs, Refusals};
+use crate::search::search_of;
 use mmt_mpt::{AssetView, Descriptors};
 
 /// The names at a packet id of an asset with these descriptors.
@@ -20,10 +21,14 @@ pub(crate) fn names_by<'a>(
     requires { 1 ≤ configured }
     ensures { location_left result ≡ names_at configured (descriptors_left descriptors.entry) packet_id }
 {
-    LocationNames {
+    let entries = Candidates {
         configured,
-        packet_id,
+        content: no_content(configured),
         descriptors,
+    };
+    LocationNames {
+        packet_id,
+        search: search_of(entries),
         trying: None,
         pairs: Pairs {
             rest: no_pairs(),

@@ -23,6 +23,7 @@ mod quiet;
 mod reading_aus;
 mod reading_extended;
 mod reading_stamps;
+mod search;
 mod slot;
 mod times;
 mod times_why;

@@ -3,23 +3,21 @@
 ghost use Rattle.std.specs.Prelude.{◌≤◌};
 
 use crate::asset_names::names_by;
-use crate::contents::no_content;
 use crate::named::Named;
-use crate::parts_left::{Candidates, Ids, Pairs, Refusals};
+use crate::parts_left::{Ids, Pairs, Refusals};
+use crate::search::Search;
 use crate::trying::{Trying, first_try};
 use mmt_mpt::Descriptors;
 
 /// The names at one packet id of an asset, from first to last. It takes no memory.
 #[derive(Clone, Copy, Debug)]
 pub(crate) struct LocationNames<'a> {
-    pub configured: u32,
     pub packet_id: u16,
-    /// All descriptors of the asset.
-    pub descriptors: Descriptors<'a>,
+    /// The extended entries of the asset.
+    pub search: Search<'a>,
     /// The trying of a pair that has been begun.
     pub trying: Option<Trying<'a>>,
     pub pairs: Pairs<'a>,
-    ghost some_timescale: { 1 ≤ configured },
 }
 
 /// The names at all packet ids of an asset, from first to last. It takes no memory.
@@ -63,11 +61,7 @@ impl<'a> Iterator for LocationNames<'a> {
         let trying = Trying {
             packet_id: self.packet_id,
             pair,
-            candidates: Candidates {
-                configured: self.configured,
-                content: no_content(self.configured),
-                descriptors: self.descriptors,
-            },
+            candidates: self.search.entries_for(pair.mpu),
         };
         let (named, after) = first_try(&trying);
         self.trying = after;

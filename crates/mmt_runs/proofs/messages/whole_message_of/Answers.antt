@@ -7,6 +7,10 @@ use Rattle.mmt_runs.specs.MessageParts.{all_parts}
 use Rattle.mmt_runs.proofs.Whole.{no_message, no_rest_message, rest_message, message_fits, left_at_first, short_messages}
 use Rattle.mmt_runs.proofs.messages.whole_message_of.Goals as goal
 
+pub returns-then-not-may_be_whole-clause-short : goal.returns-then-not-may_be_whole-clause-short
+returns-then-not-may_be_whole-clause-short c =
+    λ h i n. short_messages (map heard c.args.pool.now.kept) h c.args.span.packet_id c.args.span.number i n ∙ ap short_bytes (c.may_be_whole.ensures c.if-not-may_be_whole.true)
+
 none_is : (c : goal.In-None) → messages_with (map heard c.args.pool.now.kept) c.args.span.packet_id c.args.span.number ≡ []
 none_is c =
     let b : held c.args.pool.now.kept < 2 ^ 32 = omega (arith, c.held-most.ensures.sum) in
