@@ -3,7 +3,7 @@
 ghost use Rattle.std.specs.Prelude.{◌≡◌, ◌+◌, ◌≤◌, ◌++◌, length, decimal, vec_len, vec_capacity};
 
 use itoa::Buffer;
-use mmt_fields::{put_bytes, put_u8};
+use mmt_fields::put_bytes;
 
 /// Appends a label of at most 16 bytes and a number in decimal digits, at most 20 of them.
 pub fn put_number(digits: &mut Buffer, out: &mut Vec<u8>, label: &[u8], number: u64)
@@ -16,7 +16,7 @@ pub fn put_number(digits: &mut Buffer, out: &mut Vec<u8>, label: &[u8], number: 
 {
     put_bytes(out, label);
     if number < 10 {
-        put_u8(out, 48 + number as u8);
+        put_bytes(out, &[48 + number as u8]);
     } else {
         put_bytes(out, digits.format(number).as_bytes());
     }
