@@ -1,6 +1,6 @@
 //! Failing calls of each kind, a room that is too small, and a port over streams that fail.
 
-use crate::{CallKind, FailAt, Fault, MemoryPort, MemoryShelf, Port, RealPort, Shelf, ShelfFault};
+use crate::{CallKind, FailAt, Fault, MemoryPort, Port, RealPort};
 use std::alloc::Global;
 use std::io;
 use std::io::{ErrorKind, Read};
@@ -75,17 +75,6 @@ fn calls_past_the_room_fail_and_add_nothing(rt: HostRuntime) -> Result<(), Fail>
     assert_eq!(rt; read(&mut port, &mut buf), Err(Fault));
     assert_eq!(rt; port.written(), b"ab".as_slice());
     assert_eq!(rt; port.noted(), b"c".as_slice());
-    Ok(())
-}
-
-#[test]
-fn a_shelf_without_files_fails_where_listed(rt: HostRuntime) -> Result<(), Fail> {
-    let list = Vec::from_slice(rt.alloc(), &[1])?;
-    let mut shelf = MemoryShelf::new(rt.alloc(), list);
-    let mut buf = [0; 3];
-    for want in [ShelfFault::Absent, ShelfFault::Failed, ShelfFault::Absent] {
-        assert_eq!(rt; shelf.read_at("a", 0, &mut buf), Err(want));
-    }
     Ok(())
 }
 
