@@ -1,4 +1,4 @@
-//! Rules 5 and 7.
+//! Table copies that come too late or too early (rule A5), and too many live MPUs (rule A7).
 
 ghost use Rattle.std.specs.Prelude.{◌≡◌, ◌<◌, ◌≤◌, ◌^◌, ◌&&◌, nat_lt, length};
 ghost use Rattle.mmt_admit.specs.Faults.{as_fault, IsReadable};

@@ -9,6 +9,7 @@ mod gaps;
 mod loads;
 mod numbers;
 mod params;
+mod readable;
 mod reads;
 mod rising;
 mod starts;
@@ -16,3 +17,4 @@ mod timely;
 
 pub use admitting::{Admitted, admit};
 pub use answers::{NotAdmitted, Rule};
+pub use readable::is_readable;

@@ -1,4 +1,4 @@
-//! Rule 8.
+//! Keys that do not rise (rule A8).
 
 ghost use Rattle.std.specs.Prelude.{◌≡◌, ◌<◌, ◌==◌, ◌&&◌, ◌||◌, nat_lt, length};
 ghost use Rattle.mmt_admit.specs.Faults.{as_fault, IsReadable};
