@@ -55,5 +55,5 @@ sorted-from packets e n l =
 pub window-from : (p : Params) → fault_of_params p ≡ None → 1 ≤ p.window
 unfolding fault_of_params
 window-from p e =
-    let g = first-none _ _ (later-none _ _ e) in
+    let g : unless (nat_lt p.delay p.window) 1 1 p.window (p.delay + 1) ≡ None = first-none _ _ (later-none _ _ e) in
     omega (arith, ltb-true p.delay p.window (unless-none (nat_lt p.delay p.window) 1 1 p.window (p.delay + 1) g))
