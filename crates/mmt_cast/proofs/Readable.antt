@@ -36,7 +36,7 @@ use Rattle.mmt_model.specs.declared.keys.UnitKey.TheVariants as keys
 use Rattle.mmt_model.specs.declared.programmes.Programme.{Programme}
 use Rattle.mmt_model.specs.declared.programmes.Signal.{Signal}
 use Rattle.mmt_model.specs.declared.programmes.Signal.TheVariants as signals
-use Rattle.mmt_readable.specs.Readable.{CastsAreReadable, FitsTicks, tick_of_signal}
+use Rattle.mmt_cast.specs.Readable.{CastsAreReadable, FitsTicks, tick_of_signal}
 use Rattle.mmt_times.specs.Times.{AuValue, below_the_end, earlier, in_range, pts_or, time_at, unit_times}
 use Rattle.mmt_times.specs.Writing.{au_value}
 
@@ -230,11 +230,12 @@ readable programme right fits none =
     let soon = soon-planned programme fits none in
     record {
       packets = record { few = omega (arith, length-sort is_sent_before (planned programme), few-packets programme none); ticks = All-from_recursion IsSoon (cast_of programme).packets (soon-sent programme fits none) };
-      units = omega (arith, length-units programme, fits.few_units);
-      mpus = omega (arith, length-mpus programme, fits.few_mpus);
-      copies = omega (arith, few-copies programme 0 programme.signals, fits.few_signals);
-      unit_ticks = λ u l. unit-ticks programme fits soon u (omega (arith, l, length-units programme));
-      mpu_ticks = λ m l. mpu-ticks programme fits soon m (omega (arith, l, length-mpus programme));
-      copy_ticks = λ c l. each-at IsSoonCopy (copies_as_sent programme) c no_table_copy (soon-copies programme soon) l;
-      names = λ c l. All-from_recursion (λ m. m < length (cast_of programme).mpus) _ (copy-names programme right c l);
+      few_units = omega (arith, length-units programme, fits.few_units);
+      few_mpus = omega (arith, length-mpus programme, fits.few_mpus);
+      few_copies = omega (arith, few-copies programme 0 programme.signals, fits.few_signals);
+      units = λ u l. unit-ticks programme fits soon u (omega (arith, l, length-units programme));
+      mpus = λ m l. mpu-ticks programme fits soon m (omega (arith, l, length-mpus programme));
+      copies = λ c l.
+          (let ticks = each-at IsSoonCopy (copies_as_sent programme) c no_table_copy (soon-copies programme soon) l in
+          (ticks.0, ticks.1, All-from_recursion (λ m. m < length (cast_of programme).mpus) _ (copy-names programme right c l)));
     }

@@ -1,7 +1,7 @@
 -- Packets put one after the other.
 use Rattle.std.proofs.Common.{◌≡◌, ℕ, ◌+◌, ◌*◌, ◌==◌, ◌&&◌, if◌then◌else◌, ◌≤◌, suc, zero, List, [], ◌∷◌, ◌++◌, map, arith, refl, ap, ap₂, sym, ◌∙◌, append_assoc}
 use Rattle.mmt_cast.specs.Casting.{with_number}
-use Rattle.mmt_cast.specs.Cutting.{part_length, parts}
+use Rattle.mmt_frag.specs.Cuts.{part_length, parts}
 use Rattle.mmt_cast.specs.Sending.{Sending, carried, header_length, id_of, packet_count, packet_of, payload_length, rap_of, tick_of_packet}
 use Rattle.mmt_casting.specs.Alone.{AloneIsSent, alone_packet}
 use Rattle.mmt_casting.specs.Numbered.{numbered_packet, numbered_packets}

@@ -1,6 +1,6 @@
 -- The packets of a unit that is sent by itself, by what they hang on.
 use Rattle.std.specs.Prelude.{◌≡◌, ℕ, ◌+◌, ◌*◌, ◌&&◌, ◌==◌, List, map, if◌then◌else◌}
-use Rattle.mmt_cast.specs.Cutting.{part_length, parts}
+use Rattle.mmt_frag.specs.Cuts.{part_length, parts}
 use Rattle.mmt_cast.specs.Placing.{PlacedUnit}
 use Rattle.mmt_cast.specs.Sending.{Sending}
 use Rattle.mmt_casting.specs.Numbered.{numbered_packets}

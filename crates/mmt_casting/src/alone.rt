@@ -1,7 +1,7 @@
 //! The packets of a unit that is sent by itself.
 
 ghost use Rattle.std.specs.Prelude.{◌≡◌, if◌then◌else◌, ◌+◌, ◌≤◌, ◌<◌, ◌^◌, ◌++◌, OnOk};
-ghost use Rattle.mmt_cast.specs.Cutting.{parts as parts_of};
+ghost use Rattle.mmt_frag.specs.Cuts.{parts as parts_of};
 ghost use Rattle.mmt_casting.specs.Alone.{alone_packet as packet_of_alone, alone_packets};
 
 use mmt_base::{LongTick, OutOfMemory};

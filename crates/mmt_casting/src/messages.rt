@@ -1,7 +1,7 @@
 //! The packets of a signalling message.
 
 ghost use Rattle.std.specs.Prelude.{◌≡◌, ◌+◌, ◌≤◌, ◌<◌, ◌^◌, ◌++◌, OnOk};
-ghost use Rattle.mmt_cast.specs.Cutting.{parts as parts_of};
+ghost use Rattle.mmt_frag.specs.Cuts.{parts as parts_of};
 ghost use Rattle.mmt_cast.specs.Sending.{Sending};
 ghost use Rattle.mmt_model.specs.declared.programmes.Programme.{Programme};
 ghost use Rattle.mmt_casting.specs.Numbered.{numbered_packet, numbered_packets};

@@ -1,6 +1,6 @@
 -- The parts of a unit or message, and the payload of a part.
 use Rattle.std.specs.Prelude.{◌≡◌, ℕ, ◌+◌, ◌-◌, ◌*◌, ◌==◌, Bool, true, false, min, List, [], ◌∷◌, if◌then◌else◌}
-use Rattle.mmt_cast.specs.Cutting.{part_length, parts}
+use Rattle.mmt_frag.specs.Cuts.{part_length, parts}
 use Rattle.mmt_frag.specs.declared.cutting.PartOf.{PartOf}
 use Rattle.mmt_model.specs.Carrying.{role}
 use Rattle.mmt_model.specs.declared.keys.Part.{Part}

@@ -1,7 +1,7 @@
 -- The laws of cutting and gathering.
 use Rattle.std.specs.Prelude.{◌≡◌, ℕ, ◌+◌, ◌^◌, ◌<◌, ◌≤◌, Bool, true, List, [], ◌∷◌, length, map, take}
 use Rattle.std.specs.List.{sum_by}
-use Rattle.mmt_cast.specs.Cutting.{gathered, part_bytes, parts}
+use Rattle.mmt_frag.specs.Cuts.{gathered, part_bytes, parts}
 use Rattle.mmt_frag.specs.Fragments.{part_at, part_role}
 use Rattle.mmt_model.specs.Packets.{DataUnit, Heard, Payload}
 use Rattle.mmt_model.specs.Carrying.{numbers}

@@ -3,9 +3,14 @@ use Rattle.std.proofs.Common.{◌≡◌, ℕ, ◌+◌, ◌*◌, ◌≤◌, zero,
 use Rattle.std.proofs.lemmas.Bool.{cases_eq}
 use Rattle.std.proofs.lemmas.Grind.{div_ceil_times}
 use Rattle.std.proofs.lemmas.List.{drop-drop, take_all}
-use Rattle.mmt_cast.specs.Cutting.{part_bytes, parts}
+use Rattle.mmt_frag.specs.Cuts.{part_bytes, parts}
 use Rattle.mmt_model.specs.Carrying.{numbers}
 use Rattle.mmt_model.specs.Units.{joined}
+
+pub length-numbers : (j n : ℕ) → length (numbers j n) ≡ n
+unfolding numbers
+length-numbers j zero = refl
+length-numbers j (suc n) = ap suc (length-numbers (j + 1) n)
 
 pub take-add : {X : Type 0} (a b : ℕ) (xs : List X) → take (a + b) xs ≡ take a xs ++ take b (drop a xs)
 take-add zero b xs = let z : 0 + b ≡ b = omega arith in ap (λ n. take n xs) z
