@@ -16,7 +16,13 @@ part_role k count = if count == 1 then part.Whole else role k count
 
 -- part number k of a unit or message: where it begins, its length, which part it is, and how many follow, 255 where there are more (ISO/IEC 23008-1, the fragment counter)
 abbrev pub part_at : ℕ → ℕ → ℕ → PartOf
-part_at length limit k = record { from = k * limit; length = part_length length limit k; part = part_role k (parts length limit); left = min (parts length limit - 1 - k) 255 }
+part_at length limit k =
+    record {
+      from = k * limit;
+      length = part_length length limit k;
+      part = part_role k (parts length limit);
+      left = min (parts length limit - 1 - k) 255;
+    }
 
 -- a key is one of timed media
 abbrev pub is_timed : UnitKey → Bool
