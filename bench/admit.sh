@@ -108,7 +108,7 @@ fn sent(alloc: Global, count: u32) -> Result<Cast, OutOfMemory>
     let mut cast = Cast {
         params: Params {
             bound: 1_073_741_824,
-            window: 65_536,
+            window: 8192,
             delay: 1000,
         },
         packets: List::new(alloc),
