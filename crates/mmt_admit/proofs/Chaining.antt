@@ -1,7 +1,7 @@
 -- The rules one after the other, and what a rule without a fault gives to a later one.
 use Rattle.std.proofs.Common.{◌≡◌, ℕ, ◌+◌, ◌<◌, ◌≤◌, zero, suc, Bool, true, false, nat_le, nat_lt, arith, refl, ap, sym, ◌∙◌, ⊎_elim, Option, Some, None, is_some, List, length}
 use Rattle.std.proofs.lemmas.Bool.{cases_eq, cases_lt, leb-true, ltb-true, true≢false}
-use Rattle.mmt_admit.proofs.Sliding.{AreSorted}
+use Rattle.mmt_admit.specs.Faults.{AreInOrder}
 use Rattle.mmt_admit.specs.Faults.{as_fault}
 use Rattle.mmt_admit.specs.declared.answers.NotAdmitted.{NotAdmitted}
 use Rattle.mmt_model.specs.Admission.{Fault, fault_of_gap, fault_of_params, first_below, or_else, unless}
@@ -44,16 +44,16 @@ none-below f (suc n) i e l =
     (λ (ne : i ≡ n → ⊥). none-below f n i (first-none (first_below f n) (f n) e) (⊎_elim (λ (lt : i < n). lt) (λ (ge : n ≤ i). absurd (ne (omega arith))) (cases_lt i n)))
     (cases_eq i n)
 
--- without a fault of rule 2 the timestamps do not fall
-pub sorted-from : (packets : List Sent) → first_below (fault_of_gap packets) (length packets) ≡ None → AreSorted packets
+-- without a fault of rule A2 the timestamps do not fall
+pub sorted-from : (packets : List Sent) → first_below (fault_of_gap packets) (length packets) ≡ None → AreInOrder packets
 unfolding fault_of_gap
 sorted-from packets e n l =
     let g = none-below (fault_of_gap packets) (length packets) (suc n) e l in
     leb-true (sent_at packets n) (sent_at packets (suc n)) (unless-none (nat_le (sent_at packets n) (sent_at packets (suc n))) 2 (suc n) (sent_at packets (suc n)) (sent_at packets n) (first-none _ _ g))
 
--- without a fault of rule 1 the window is not empty
+-- without a fault of rule A1 the window is not empty
 pub window-from : (p : Params) → fault_of_params p ≡ None → 1 ≤ p.window
 unfolding fault_of_params
 window-from p e =
-    let g = first-none _ _ (later-none _ _ e) in
+    let g : unless (nat_lt p.delay p.window) 1 1 p.window (p.delay + 1) ≡ None = first-none _ _ (later-none _ _ e) in
     omega (arith, ltb-true p.delay p.window (unless-none (nat_lt p.delay p.window) 1 1 p.window (p.delay + 1) g))

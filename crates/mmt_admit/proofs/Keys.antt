@@ -1,13 +1,13 @@
--- Rule 8 by two units, rules 5, 7 and 9 item by item.
-use Rattle.std.proofs.Common.{◌≡◌, ℕ, ◌+◌, ◌-◌, ◌<◌, ◌≤◌, zero, suc, Bool, true, false, not, ◌||◌, ◌&&◌, nat_lt, cond, List, [], ◌∷◌, ◌++◌, length, get_or, take, drop, arith, refl, ap, ap₂, sym, ◌∙◌, Option, Some, None, is_some}
+-- Rule A8 by two units, rules A5, A7 and A9 item by item.
+use Rattle.std.proofs.Common.{◌≡◌, ℕ, ◌+◌, ◌-◌, ◌<◌, ◌≤◌, zero, suc, Bool, true, false, not, ◌||◌, ◌&&◌, nat_le, nat_lt, cond, List, [], ◌∷◌, ◌++◌, length, get_or, take, drop, arith, refl, ap, ap₂, sym, ◌∙◌, Option, Some, None, is_some}
 use Rattle.std.specs.List.{count_by}
-use Rattle.std.proofs.lemmas.Bool.{true≢false}
+use Rattle.std.proofs.lemmas.Bool.{le-leb, true≢false}
 use Rattle.std.proofs.lemmas.List.{drop_all, drop_more, take-append-drop, take_all, take_more}
-use Rattle.std.proofs.lemmas.List.Sums.{count_by_more_no, count_by_more_yes}
+use Rattle.std.proofs.lemmas.List.Sums.{count_by-le-length, count_by_more_no, count_by_more_yes}
 use Rattle.mmt_admit.specs.Faults.{as_fault}
 use Rattle.mmt_admit.specs.declared.answers.NotAdmitted.{NotAdmitted}
-use Rattle.mmt_model.specs.Admission.{Fault, fault_of_key, first_among, first_parameters, has_parameters, is_named_by, is_of_one_mpu, live_at, or_else, sample_or_item, unless}
-use Rattle.mmt_model.specs.Carrying.{no_sent_mpu, sent_mpu, sent_unit}
+use Rattle.mmt_model.specs.Admission.{Fault, fault_of_key, fault_of_live, first_among, first_below, first_parameters, has_parameters, is_named_by, is_of_one_mpu, live_at, or_else, sample_or_item, unless}
+use Rattle.mmt_model.specs.Carrying.{no_sent_mpu, sent_mpu, sent_unit, table_copy}
 use Rattle.mmt_model.specs.Handing.{key_numbers, precedes}
 use Rattle.mmt_model.specs.Survival.{no_packet}
 use Rattle.mmt_model.specs.declared.casts.Cast.{Cast}
@@ -15,7 +15,7 @@ use Rattle.mmt_model.specs.declared.casts.Sent.{Sent}
 use Rattle.mmt_model.specs.declared.casts.SentMpu.{SentMpu}
 use Rattle.mmt_model.specs.declared.casts.SentUnit.{SentUnit}
 
--- ---- rule 8
+-- ---- rule A8
 
 pub key-first : (cast : Cast) (u : ℕ) → u ≡ 0 → None ≡ fault_of_key cast u
 unfolding fault_of_key
@@ -86,6 +86,15 @@ live-no cast tick m l t = count_by_more_no (λ (x : SentMpu). is_named_by tick x
 pub live-ends : (tick m : ℕ) (mpus : List SentMpu) → length mpus ≤ m → live_of tick m mpus ≡ live_at mpus tick
 unfolding live_of live_at
 live-ends tick m mpus l = ap (count_by (λ (x : SentMpu). is_named_by tick x.named_from && nat_lt tick x.last.0)) (take_all m mpus l)
+
+-- where there are no more than 1,024 MPUs, no more are live
+pub few-live : (cast : Cast) (n : ℕ) → length cast.mpus ≤ 1024 → first_below (fault_of_live cast) n ≡ None
+unfolding first_below fault_of_live live_at
+few-live cast zero few = refl
+few-live cast (suc n) few =
+    let within : nat_le (count_by (λ (x : SentMpu). is_named_by (table_copy cast n).last.0 x.named_from && nat_lt (table_copy cast n).last.0 x.last.0) cast.mpus) 1024 ≡ true =
+    le-leb _ 1024 (omega (arith, few, count_by-le-length (λ (x : SentMpu). is_named_by (table_copy cast n).last.0 x.named_from && nat_lt (table_copy cast n).last.0 x.last.0) cast.mpus)) in
+    ap₂ or_else (few-live cast n few) (ap (λ b. unless b 7 n (live_at cast.mpus (table_copy cast n).last.0) 1024) within)
 
 -- ---- the first buffer message
 

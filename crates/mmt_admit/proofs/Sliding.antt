@@ -5,6 +5,7 @@ use Rattle.std.proofs.lemmas.Bool.{and_from, and_left, and_right, cases_eq, case
 use Rattle.std.proofs.lemmas.List.{take_all, take_more}
 use Rattle.std.proofs.lemmas.List.Elements.{filter-append}
 use Rattle.std.proofs.lemmas.List.Sums.{sum_by-append, sum_by-cons}
+use Rattle.mmt_admit.specs.Faults.{AreInOrder}
 use Rattle.mmt_model.specs.Admission.{fault_of_load, unless}
 use Rattle.mmt_model.specs.Survival.{length_of, load, no_packet, sent_at}
 use Rattle.mmt_model.specs.declared.casts.Cast.{Cast}
@@ -26,17 +27,13 @@ bytes-rise packets j (suc n) l =
     let s : j + n + 1 ≡ j + suc n = omega arith in
     omega (arith, bytes-rise packets j n (omega arith), bytes-more packets (j + n) (omega arith), ap (bytes_of packets) s)
 
--- timestamps do not fall
-abbrev pub AreSorted : List Sent → Type 0
-AreSorted packets = (n : ℕ) → suc n < length packets → sent_at packets n ≤ sent_at packets (suc n)
-
-pub sorted-by : (packets : List Sent) → AreSorted packets → (j n : ℕ) → j + n < length packets → sent_at packets j ≤ sent_at packets (j + n)
+pub sorted-by : (packets : List Sent) → AreInOrder packets → (j n : ℕ) → j + n < length packets → sent_at packets j ≤ sent_at packets (j + n)
 sorted-by packets sorted j zero l = let z : j ≡ j + 0 = omega arith in omega (arith, ap (sent_at packets) z)
 sorted-by packets sorted j (suc n) l =
     let s : suc (j + n) ≡ j + suc n = omega arith in
     omega (arith, sorted-by packets sorted j n (omega arith), sorted (j + n) (omega arith), ap (sent_at packets) s)
 
-pub sorted-at : (packets : List Sent) → AreSorted packets → (j k : ℕ) → j ≤ k → k < length packets → sent_at packets j ≤ sent_at packets k
+pub sorted-at : (packets : List Sent) → AreInOrder packets → (j k : ℕ) → j ≤ k → k < length packets → sent_at packets j ≤ sent_at packets k
 sorted-at packets sorted j k l b =
     let s : j + (k - j) ≡ k = omega (arith, l) in
     omega (arith, sorted-by packets sorted j (k - j) (omega (arith, l, b)), ap (sent_at packets) s)
@@ -117,7 +114,7 @@ front-more packets window now m l =
     one true = omega (arith, sum_by-cons (λ (q : Sent). q.length) (get_or packets m no_packet) [])
     one false = refl
 
-front-load : (packets : List Sent) (window now start end bytes : ℕ) → AreSorted packets → 1 ≤ window → IsWindow packets window now start end bytes → IsWhole packets window now start end → (m : ℕ) → m ≤ length packets
+front-load : (packets : List Sent) (window now start end bytes : ℕ) → AreInOrder packets → 1 ≤ window → IsWindow packets window now start end bytes → IsWhole packets window now start end → (m : ℕ) → m ≤ length packets
     → front packets window now m + bytes_of packets (min m start) ≡ bytes_of packets (min m end)
 front-load packets window now start end bytes sorted some w whole zero l =
     let a : min 0 start ≡ min 0 end = omega arith in
@@ -161,7 +158,7 @@ front-load packets window now start end bytes sorted some w whole (suc m) l =
     (cases_lt m end))
     (cases_lt m start)
 
-pub load-is : (packets : List Sent) (window now start end bytes : ℕ) → AreSorted packets → 1 ≤ window → IsWindow packets window now start end bytes → IsWhole packets window now start end → load packets window now ≡ bytes
+pub load-is : (packets : List Sent) (window now start end bytes : ℕ) → AreInOrder packets → 1 ≤ window → IsWindow packets window now start end bytes → IsWhole packets window now start end → load packets window now ≡ bytes
 unfolding load
 load-is packets window now start end bytes sorted some w whole =
     let n : ℕ = length packets in
@@ -177,15 +174,15 @@ unfolding fault_of_load
 load-at cast n now bytes e is = ap (λ b. unless (nat_le b cast.params.bound) 6 n b cast.params.bound) (sym is ∙ ap (load cast.packets cast.params.window) e)
 
 -- the fault of a packet by the window that ends with it
-pub load-found : (cast : Cast) (packets : List Sent) (n window bound now start end bytes : ℕ) → packets ≡ cast.packets → window ≡ cast.params.window → bound ≡ cast.params.bound → AreSorted cast.packets → 1 ≤ cast.params.window → now ≡ sent_at packets n
+pub load-found : (cast : Cast) (packets : List Sent) (n window bound now start end bytes : ℕ) → packets ≡ cast.packets → window ≡ cast.params.window → bound ≡ cast.params.bound → AreInOrder cast.packets → 1 ≤ cast.params.window → now ≡ sent_at packets n
     → IsWindow packets window now start end bytes → IsWhole packets window now start end → unless (nat_le bytes bound) 6 n bytes bound ≡ fault_of_load cast n
 load-found cast packets n window bound now start end bytes e ew eb sorted some at w whole =
     ap (λ b. unless (nat_le bytes b) 6 n bytes b) eb
     ∙ load-at cast n now bytes (at ∙ ap (λ (ps : List Sent). sent_at ps n) e)
-    (ap₂ (λ (ps : List Sent) v. load ps v now) (sym e) (sym ew) ∙ load-is packets window now start end bytes (subst AreSorted (sym e) sorted) (omega (arith, some, ew)) w whole)
+    (ap₂ (λ (ps : List Sent) v. load ps v now) (sym e) (sym ew) ∙ load-is packets window now start end bytes (subst AreInOrder (sym e) sorted) (omega (arith, some, ew)) w whole)
 
 -- the window at the next packet
-pub window-next : (packets : List Sent) (n window now start end bytes : ℕ) → AreSorted packets → now ≡ sent_at packets n → n + 1 < length packets
+pub window-next : (packets : List Sent) (n window now start end bytes : ℕ) → AreInOrder packets → now ≡ sent_at packets n → n + 1 < length packets
     → IsWindow packets window now start end bytes → IsWindow packets window (sent_at packets (n + 1)) start end bytes
 window-next packets n window now start end bytes sorted at l w =
     let s : n + 1 ≡ suc n = omega arith in

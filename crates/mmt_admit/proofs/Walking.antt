@@ -33,7 +33,7 @@ pub walk-begins : (f : ℕ → Option Fault) → first_below f 0 ≡ None
 unfolding first_below
 walk-begins f = refl
 
--- rule 2 by the two timestamps
+-- rule A2 by the two timestamps
 pub gap-first : (packets : List Sent) (n : ℕ) → n ≡ 0 → None ≡ fault_of_gap packets n
 unfolding fault_of_gap
 gap-first packets zero e = refl

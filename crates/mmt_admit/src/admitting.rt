@@ -14,12 +14,24 @@ use crate::rising::first_key;
 use crate::starts::{first_mpu, start_fault};
 use crate::timely::first_unit;
 use mmt_model::Cast;
+use std::marker::Model;
 
-/// A cast without a fault, which it lends.
-#[derive(Clone, Copy, Debug)]
+/// A cast without a fault, which it lends. Contracts see it as that cast.
+#[derive(Debug, Drop)]
 pub struct Admitted<'a> {
     cast: &'a Cast,
-    ghost admitted: { fault cast.now ≡ None },
+}
+
+impl<'a> Model for Admitted<'a> {
+    ghost use Rattle.std.specs.Prelude.{◌≡◌, None};
+    ghost use Rattle.mmt_model.specs.Admission.{fault};
+    ghost use Rattle.mmt_model.specs.declared.casts.Cast.{Cast};
+
+    ghost Value = { Cast };
+
+    ghost view = { λ a. a.cast.now };
+
+    ghost invariant = { λ a. fault a.cast.now ≡ None };
 }
 
 impl<'a> Admitted<'a> {
@@ -28,7 +40,7 @@ impl<'a> Admitted<'a> {
 
     /// The cast.
     pub fn cast(&self) -> &'a Cast
-        ensures same { result.now ≡ self.now.cast.now }
+        ensures same { result.now ≡ self.now }
         ensures admitted { fault result.now ≡ None }
     {
         self.cast
@@ -80,14 +92,15 @@ fn first_fault(cast: &Cast) -> Option<NotAdmitted>
     first_mpu(cast)
 }
 
-/// Admits a cast, or tells its first fault. It takes no memory.
+/// Admits a cast, or tells its first fault. It goes over the packets, units and MPUs a fixed number of
+/// times, and for each table copy over the MPUs that it names and once over all MPUs. It takes no memory.
 ///
 /// # Errors
 ///
 /// The first fault, exactly where there is one.
 pub fn admit(cast: &Cast) -> Result<Admitted<'_>, NotAdmitted>
     requires { IsReadable cast.now }
-    ensures admitted { IfOk result (λ a. a.cast.now ≡ cast.now) }
+    ensures admitted { IfOk result (λ a. a ≡ cast.now) }
     ensures none { OnOk result (fault cast.now ≡ None) }
     ensures refused { IfErr result (λ e. fault cast.now ≡ Some (fault_value e)) }
 {

@@ -1,4 +1,4 @@
-//! Rules 5 and 7.
+//! Table copies that come too late or too early (rule A5), and too many live MPUs (rule A7).
 
 ghost use Rattle.std.specs.Prelude.{◌≡◌, ◌<◌, ◌≤◌, ◌^◌, ◌&&◌, nat_lt, length};
 ghost use Rattle.mmt_admit.specs.Faults.{as_fault, IsReadable};
@@ -124,11 +124,15 @@ fn live_fault(cast: &Cast, c: usize) -> Option<NotAdmitted>
     unless(count <= 1024, Rule::A7, c as u32, count, 1024)
 }
 
-/// The first table copy at whose end too many MPUs are live.
+/// The first table copy at whose end too many MPUs are live. Where a cast has no more than 1,024 MPUs
+/// nothing is counted.
 pub(crate) fn first_live(cast: &Cast) -> Option<NotAdmitted>
     requires { IsReadable cast.now }
     ensures { as_fault result ≡ first_below (fault_of_live cast.now) (length cast.now.copies) }
 {
+    if cast.mpus.len() <= 1024 {
+        return None;
+    }
     for c in 0..cast.copies.len() {
         let found = live_fault(cast, c);
         if found.is_some() {

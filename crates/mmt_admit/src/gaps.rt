@@ -1,4 +1,4 @@
-//! Rule 2.
+//! Timestamps that fall, and long silences (rule A2).
 
 ghost use Rattle.std.specs.Prelude.{◌≡◌, ◌<◌, length};
 ghost use Rattle.mmt_admit.specs.Faults.{as_fault, PacketsFit};

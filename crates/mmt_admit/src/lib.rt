@@ -6,13 +6,21 @@ mod admitting;
 mod answers;
 mod copies;
 mod gaps;
+#[cfg(test)]
+mod large_tests;
 mod loads;
 mod numbers;
 mod params;
+mod readable;
 mod reads;
 mod rising;
+#[cfg(test)]
+mod samples;
 mod starts;
+#[cfg(test)]
+mod tests;
 mod timely;
 
 pub use admitting::{Admitted, admit};
 pub use answers::{NotAdmitted, Rule};
+pub use readable::is_readable;

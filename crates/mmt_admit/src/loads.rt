@@ -1,9 +1,8 @@
-//! Rule 6.
+//! More payload bytes in a window than the bound (rule A6).
 
-ghost use Rattle.std.specs.Prelude.{◌≡◌, ◌≤◌, ℕ, suc, ◌<◌, length};
-ghost use Rattle.mmt_admit.specs.Faults.{as_fault, PacketsFit};
+ghost use Rattle.std.specs.Prelude.{◌≡◌, ◌≤◌, length};
+ghost use Rattle.mmt_admit.specs.Faults.{as_fault, AreInOrder, PacketsFit};
 ghost use Rattle.mmt_model.specs.Admission.{fault_of_load, first_below};
-ghost use Rattle.mmt_model.specs.Survival.{sent_at};
 
 use crate::answers::{NotAdmitted, Rule, unless};
 use crate::reads::{bytes_at, tick_at, widened};
@@ -13,7 +12,7 @@ use mmt_model::Cast;
 /// of packets slides over the cast, and their bytes are a running sum.
 pub(crate) fn first_load(cast: &Cast) -> Option<NotAdmitted>
     requires fit { PacketsFit cast.now.packets }
-    requires sorted { (n : ℕ) → suc n < length cast.now.packets → sent_at cast.now.packets n ≤ sent_at cast.now.packets (suc n) }
+    requires in_order { AreInOrder cast.now.packets }
     requires window { 1 ≤ cast.now.params.window }
     ensures { as_fault result ≡ first_below (fault_of_load cast.now) (length cast.now.packets) }
 {

@@ -1,4 +1,4 @@
-//! Rule 3.
+//! Packets out of their number (rule A3).
 
 ghost use Rattle.std.specs.Prelude.{◌≡◌, length};
 ghost use Rattle.mmt_admit.specs.Faults.{as_fault, PacketsFit};

@@ -1,4 +1,4 @@
-//! Rule 1.
+//! Values of the buffer message out of their ranges (rule A1).
 
 ghost use Rattle.std.specs.Prelude.{◌≡◌};
 ghost use Rattle.mmt_admit.specs.Faults.{as_fault};

@@ -2,6 +2,7 @@
 
 ghost use Rattle.std.specs.Prelude.{◌≡◌, ◌<◌, ◌^◌, length, get_or};
 ghost use Rattle.mmt_admit.specs.Faults.{PacketsFit};
+ghost use Rattle.mmt_model.specs.Carrying.{sent_mpu, sent_unit, table_copy};
 ghost use Rattle.mmt_model.specs.Survival.{length_of, no_packet, sent_at};
 
 use mmt_model::{Cast, Sent, SentMpu, SentUnit};
@@ -50,9 +51,6 @@ pub(crate) fn widened(n: u32) -> u64
 {
     n as u64
 }
-
-ghost use Rattle.mmt_admit.specs.Faults.{IsReadable, TickFits};
-ghost use Rattle.mmt_model.specs.Carrying.{sent_mpu, sent_unit, table_copy};
 
 /// The unit at this place.
 #[tactic(auto, unfolding(mmt_model::specs::Carrying::sent_unit))]

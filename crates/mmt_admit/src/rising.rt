@@ -1,6 +1,6 @@
-//! Rule 8.
+//! Keys that do not rise (rule A8).
 
-ghost use Rattle.std.specs.Prelude.{◌≡◌, ◌<◌, ◌==◌, ◌&&◌, ◌||◌, nat_lt, length};
+ghost use Rattle.std.specs.Prelude.{◌≡◌, ◌<◌, ◌==◌, ◌&&◌, ◌||◌, nat_lt, [], ◌∷◌, length};
 ghost use Rattle.mmt_admit.specs.Faults.{as_fault, IsReadable};
 ghost use Rattle.mmt_model.specs.Admission.{fault_of_key, first_below, is_of_one_mpu, sample_or_item};
 ghost use Rattle.mmt_model.specs.Handing.{key_numbers, precedes};
@@ -36,8 +36,6 @@ fn comes_before(a: UnitKey, b: UnitKey) -> bool
     let second = before_or(x, u, third);
     before_or(kind, other, second)
 }
-
-ghost use Rattle.std.specs.Prelude.{[], ◌∷◌};
 
 /// A key as numbers.
 #[tactic(auto, unfolding(mmt_model::specs::Handing::key_numbers))]

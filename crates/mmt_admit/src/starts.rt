@@ -1,4 +1,5 @@
-//! Rules 9 and 10.
+//! A cast that does not begin with a buffer message (rule A9), and MPUs that no table copy names in time
+//! (rule A10).
 
 ghost use Rattle.std.specs.Prelude.{◌≡◌, ◌<◌, ◌≤◌, length};
 ghost use Rattle.mmt_admit.specs.Faults.{as_fault, IsReadable, TickFits};

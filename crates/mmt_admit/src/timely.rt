@@ -1,4 +1,4 @@
-//! Rule 4.
+//! Units that are due too early or too late (rule A4).
 
 ghost use Rattle.std.specs.Prelude.{◌≡◌, ◌<◌, length};
 ghost use Rattle.mmt_admit.specs.Faults.{as_fault, IsReadable};

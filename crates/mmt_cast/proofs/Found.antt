@@ -3,7 +3,8 @@ use Rattle.std.proofs.Common.{◌≡◌, ℕ, ◌+◌, ◌<◌, ◌≤◌, suc, 
 use Rattle.std.specs.List.{AllByRecursion}
 use Rattle.std.proofs.lemmas.Bool.{and_from, and_parts, eq-eqb, eqb-true}
 use Rattle.std.proofs.lemmas.List.{length-append, length-map}
-use Rattle.mmt_cast.proofs.Listing.{IsIn, each-sort, in-sort, length-numbers}
+use Rattle.mmt_cast.proofs.Listing.{IsIn, each-sort, in-sort}
+use Rattle.mmt_frag.proofs.PartsJoined.{length-numbers}
 use Rattle.mmt_cast.proofs.Numbering.{IsTold, before, count-le-length, each-planned, flat, is-planned, is-told, length-numbered, packet_after, piece, planned-split}
 use Rattle.mmt_cast.specs.Casting.{cast_of, is_sent_before, numbered_after, planned, with_number}
 use Rattle.mmt_cast.specs.Sending.{Sending, id_of, packet_count, packet_of, packets_of, sendings}

@@ -4,7 +4,7 @@ use Rattle.std.specs.List.{prefix_len, sum_by}
 use Rattle.std.proofs.lemmas.Bool.{and_parts, eqb-true, leb-true}
 use Rattle.std.proofs.lemmas.List.{length-map, length-take, take-map, take-take}
 use Rattle.std.proofs.lemmas.List.Sums.{prefix_len-le-length, prefix_len_passes, sum_by-cons}
-use Rattle.mmt_cast.specs.Cutting.{fitting, gathered}
+use Rattle.mmt_frag.specs.Cuts.{fitting, gathered}
 use Rattle.mmt_cast.specs.Placing.{PlacedUnit}
 use Rattle.mmt_cast.specs.Sending.{candidates, group_size, header_length, is_short, may_join}
 use Rattle.mmt_model.specs.declared.programmes.Programme.{Programme}

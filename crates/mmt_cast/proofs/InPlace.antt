@@ -11,7 +11,7 @@ use Rattle.mmt_cast.proofs.SentIn.{IsSentIn, one-mpu, right-sending, sent-at}
 use Rattle.mmt_cast.proofs.Tabling.{table-read}
 use Rattle.mmt_cast.proofs.Units.{read-off}
 use Rattle.mmt_cast.specs.Casting.{cast_of, copies_as_sent, with_number}
-use Rattle.mmt_cast.specs.Cutting.{parts}
+use Rattle.mmt_frag.specs.Cuts.{parts}
 use Rattle.mmt_cast.specs.Placing.{PlacedMpu, PlacedUnit, all_units}
 use Rattle.mmt_cast.specs.Right.{IsRight, contents_of, unit_at}
 use Rattle.mmt_cast.specs.Sending.{Sending, carried, id_of, packet_count, packet_of, sendings}

@@ -5,7 +5,7 @@ use Rattle.std.specs.List.{flat_map, sum_by}
 use Rattle.std.proofs.lemmas.List.{drop-drop, length-append, length-map, take_all}
 use Rattle.std.proofs.lemmas.List.Concat.{flat_map-append}
 use Rattle.std.proofs.lemmas.List.Sums.{sum_by-cons}
-use Rattle.mmt_cast.proofs.Parts.{parts-enough, take-add}
+use Rattle.mmt_frag.proofs.PartsJoined.{parts-enough, take-add}
 use Rattle.mmt_cast.specs.Placing.{PlacedMpu, map_from}
 use Rattle.mmt_cast.specs.SentTables.{extended_of_mpu, pair_of, sent_asset, sent_descriptors, sent_table, stamps_of_21}
 use Rattle.mmt_cast.specs.Tables.{asset_length, descriptors_length, extended_length, named_of_asset, table_length}

@@ -8,7 +8,6 @@ pub mod Rightness
 pub mod Own
 pub mod Spanning
 pub mod Placed
-pub mod Parts
 pub mod Reading
 pub mod SentIn
 pub mod Units
@@ -27,3 +26,4 @@ pub mod Spelled
 pub mod Examples
 pub mod Running
 pub mod Ordering
+pub mod Readable

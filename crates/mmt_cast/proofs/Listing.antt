@@ -110,11 +110,6 @@ length-sort before (x ∷ xs) = length-insert before x (sort_by before xs) ∙ a
 
 -- ---- numbers
 
-pub length-numbers : (j n : ℕ) → length (numbers j n) ≡ n
-unfolding numbers
-length-numbers j zero = refl
-length-numbers j (suc n) = ap suc (length-numbers (j + 1) n)
-
 pub each-numbers : (P : ℕ → Type 0) (j n : ℕ) → ((k : ℕ) → j ≤ k → k < j + n → P k) → AllByRecursion P (numbers j n)
 unfolding numbers
 each-numbers P j zero h = tt

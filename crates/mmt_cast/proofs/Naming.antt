@@ -7,7 +7,7 @@ use Rattle.std.proofs.lemmas.List.Concat.{flat_map-append}
 use Rattle.std.proofs.lemmas.List.Elements.{All-from_recursion}
 use Rattle.mmt_cast.proofs.Descriptors.{NumbersDiffer, descriptor_of, end_at, extended-read, places-append, tried-own}
 use Rattle.mmt_cast.proofs.Listing.{IsIn}
-use Rattle.mmt_cast.proofs.Parts.{parts-enough, take-add}
+use Rattle.mmt_frag.proofs.PartsJoined.{parts-enough, take-add}
 use Rattle.mmt_cast.specs.Placing.{PlacedMpu, entry_of_mpu}
 use Rattle.mmt_cast.specs.SentTables.{extended_of_mpu, pair_of, sent_asset, sent_descriptors, stamps_of_21}
 use Rattle.mmt_cast.specs.Tables.{named_of_asset}

@@ -5,7 +5,8 @@ use Rattle.std.proofs.lemmas.List.{append-nil, length-map}
 use Rattle.std.proofs.lemmas.List.Concat.{flat_map-append}
 use Rattle.std.proofs.lemmas.List.Sums.{sum_by-cons}
 use Rattle.mmt_cast.proofs.Covering.{covers_table, covers_unit}
-use Rattle.mmt_cast.proofs.Listing.{length-numbers, map-map}
+use Rattle.mmt_cast.proofs.Listing.{map-map}
+use Rattle.mmt_frag.proofs.PartsJoined.{length-numbers}
 use Rattle.mmt_cast.proofs.Numbering.{before, count-append, count-packets, flat, packet_after}
 use Rattle.mmt_cast.proofs.SentIn.{table-span, unit-span}
 use Rattle.mmt_cast.specs.Casting.{Span, count_of_id, greatest, least, span_of, span_of_table, span_of_unit, tick_of_sent, with_number}

@@ -6,11 +6,11 @@ use Rattle.mmt_cast.proofs.Covering.{IsSplit, covers_table, covers_unit, others,
 use Rattle.mmt_cast.proofs.Listing.{each-in, in-right}
 use Rattle.mmt_cast.proofs.Numbering.{before, piece}
 use Rattle.mmt_cast.proofs.Own.{Agrees, own-packets}
-use Rattle.mmt_cast.proofs.Parts.{parts-enough, parts-some}
+use Rattle.mmt_frag.proofs.PartsJoined.{parts-enough, parts-some}
 use Rattle.mmt_cast.proofs.Reading.{placed-unit}
 use Rattle.mmt_cast.proofs.Rightness.{IsRightSending, right-sendings}
 use Rattle.mmt_cast.specs.Casting.{has_table, has_unit, span_of, span_of_table, span_of_unit}
-use Rattle.mmt_cast.specs.Cutting.{parts}
+use Rattle.mmt_frag.specs.Cuts.{parts}
 use Rattle.mmt_cast.specs.Placing.{PlacedMpu, PlacedUnit, all_units}
 use Rattle.mmt_cast.specs.Right.{IsRight, mpu_at, unit_at}
 use Rattle.mmt_cast.specs.Sending.{Sending, carried, id_of, packet_count, sendings}

@@ -2,7 +2,8 @@
 use Rattle.std.proofs.Common.{◌≡◌, ℕ, ◌+◌, ◌≤◌, zero, suc, List, [], ◌∷◌, ◌++◌, map, get_or, min, max, arith, refl, ap, sym, ◌∙◌}
 use Rattle.std.proofs.lemmas.List.{length-map}
 use Rattle.mmt_cast.proofs.Found.{found}
-use Rattle.mmt_cast.proofs.Listing.{length-numbers, map-map, map-numbers-shift, same-map_numbers}
+use Rattle.mmt_cast.proofs.Listing.{map-map, map-numbers-shift, same-map_numbers}
+use Rattle.mmt_frag.proofs.PartsJoined.{length-numbers}
 use Rattle.mmt_cast.proofs.Numbering.{before, packet_after, piece}
 use Rattle.mmt_cast.specs.Casting.{cast_of, greatest, least, span_of, tick_of_sent, with_number}
 use Rattle.mmt_cast.specs.Sending.{Sending, id_of, packet_count, sendings}

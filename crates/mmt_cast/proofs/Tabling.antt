@@ -6,14 +6,14 @@ use Rattle.mmt_cast.proofs.Copies.{IsCopy, IsTableIn, are-copies, copy_of, diffe
 use Rattle.mmt_cast.proofs.Found.{found, numbers-fit}
 use Rattle.mmt_cast.proofs.Listing.{each-at, map-map}
 use Rattle.mmt_cast.proofs.Numbering.{before}
-use Rattle.mmt_cast.proofs.Parts.{joined-parts, parts-enough, parts-some}
+use Rattle.mmt_frag.proofs.PartsJoined.{joined-parts, parts-enough, parts-some}
 use Rattle.mmt_cast.proofs.Placed.{known-place}
 use Rattle.mmt_cast.proofs.Reading.{length-mpus}
 use Rattle.mmt_cast.proofs.Refusals.{IsShort}
 use Rattle.mmt_cast.proofs.SentIn.{table-span}
 use Rattle.mmt_cast.proofs.Spanning.{places, spanned}
 use Rattle.mmt_cast.specs.Casting.{Span, cast_of, copies_as_sent, place_of_mpu, planned, with_number}
-use Rattle.mmt_cast.specs.Cutting.{part_bytes, parts}
+use Rattle.mmt_frag.specs.Cuts.{part_bytes, parts}
 use Rattle.mmt_cast.specs.Placing.{all_mpus}
 use Rattle.mmt_cast.specs.Right.{IsKnown, IsMessage, IsRight, NamesKnown, contents_of, signal_at}
 use Rattle.mmt_cast.specs.Sending.{Sending, carried, id_of, packet_count, packet_of, sendings}

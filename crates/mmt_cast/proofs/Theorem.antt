@@ -4,7 +4,7 @@ use Rattle.mmt_base.specs.declared.ticks.LongTick.{LongTick}
 use Rattle.mmt_cast.proofs.Found.{each-sent}
 use Rattle.mmt_cast.proofs.InPlace.{packets-right}
 use Rattle.mmt_cast.proofs.Listing.{each-at}
-use Rattle.mmt_cast.proofs.Parts.{one-part}
+use Rattle.mmt_frag.proofs.PartsJoined.{one-part}
 use Rattle.mmt_cast.proofs.Placed.{IsPlaced, climbs, mpu-place, placed}
 use Rattle.mmt_cast.proofs.Reading.{length-mpus, length-units, mpu-of, mpu-sent}
 use Rattle.mmt_cast.proofs.Refusals.{few-packets, short-tables}

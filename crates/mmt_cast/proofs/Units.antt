@@ -3,7 +3,7 @@ use Rattle.std.proofs.Common.{◌≡◌, ℕ, ◌+◌, ◌<◌, ◌≤◌, true,
 use Rattle.std.proofs.lemmas.List.{length-take}
 use Rattle.mmt_cast.proofs.Found.{found, numbers-fit}
 use Rattle.mmt_cast.proofs.Numbering.{before}
-use Rattle.mmt_cast.proofs.Parts.{joined-parts}
+use Rattle.mmt_frag.proofs.PartsJoined.{joined-parts}
 use Rattle.mmt_cast.proofs.Reading.{entry-of-unit, length-mpus, mpu-of, placed-unit, unit-sent}
 use Rattle.mmt_cast.proofs.SentIn.{IsSentIn, sent-in}
 use Rattle.mmt_cast.proofs.Spanning.{places, spanned}

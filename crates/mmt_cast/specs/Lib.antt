@@ -1,4 +1,3 @@
-pub mod Cutting
 pub mod Placing
 pub mod Tables
 pub mod SentTables
@@ -10,3 +9,4 @@ pub mod PlanOne
 pub mod Examples
 pub mod Right
 pub mod TablesRead
+pub mod Readable

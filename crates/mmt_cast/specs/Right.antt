@@ -1,7 +1,7 @@
 -- What the cast of a right programme is to carry, and that it goes with it.
 use Rattle.std.specs.Prelude.{ℕ, ◌≡◌, ◌<◌, ◌≤◌, false, List, [], map, length, get_or, take, drop, None}
 use Rattle.mmt_cast.specs.Casting.{cast_of, place_of_mpu}
-use Rattle.mmt_cast.specs.Cutting.{part_bytes}
+use Rattle.mmt_frag.specs.Cuts.{part_bytes}
 use Rattle.mmt_cast.specs.Placing.{PlacedMpu, PlacedUnit, all_mpus, all_units, entry_of_mpu}
 use Rattle.mmt_cast.specs.Refusing.{refusal}
 use Rattle.mmt_cast.specs.Tables.{parameters_length, table_message_length}

@@ -1,7 +1,7 @@
 -- What a sender sends of a programme, in the order of the plan: each signalling message, each unit that is not gathered, each group of units that are, and the packets of each.
 use Rattle.std.specs.Prelude.{ℕ, zero, suc, ◌+◌, ◌-◌, ◌*◌, Bool, false, ◌&&◌, nat_lt, nat_le, ◌==◌, List, [], ◌∷◌, ◌++◌, map, take, if◌then◌else◌}
 use Rattle.std.specs.List.{sum_by, take_while}
-use Rattle.mmt_cast.specs.Cutting.{gathered, part_length, parts}
+use Rattle.mmt_frag.specs.Cuts.{gathered, part_length, parts}
 use Rattle.mmt_cast.specs.Placing.{PlacedUnit, all_units, map_from}
 use Rattle.mmt_cast.specs.Tables.{parameters_length, table_message_length}
 use Rattle.mmt_model.specs.Carrying.{numbers}

@@ -4,6 +4,7 @@
 
 ghost use Rattle.mmt_cast.specs.Examples.{AreExamples};
 ghost use Rattle.mmt_cast.specs.PlanOne.{ComputesPlanOne, AreRefusedPlans};
+ghost use Rattle.mmt_cast.specs.Readable.{CastsAreReadable};
 ghost use Rattle.mmt_cast.specs.Right.{CastIsRight};
 ghost use Rattle.mmt_cast.specs.TablesRead.{TablesAreRead, TablesAreSpelled};
 ghost use Rattle.mmt_cast.specs.Headline.{ProgrammesAreDelivered};
@@ -29,6 +30,11 @@ pub fn examples_compute()
 /// The cast of a right programme goes with what it is to carry.
 pub fn cast_is_right()
     ensures { CastIsRight }
+{}
+
+/// The cast of a right programme that has one is one that admission may be asked about.
+pub fn casts_are_readable()
+    ensures { CastsAreReadable }
 {}
 
 /// In a table that is sent a receiver reads exactly the entries of the MPUs that it names.

@@ -3,7 +3,7 @@ use Rattle.std.proofs.Common.{◌≡◌, ℕ, ◌+◌, ◌-◌, ◌<◌, ◌≤�
 use Rattle.std.proofs.lemmas.Bool.{le-leb, lt-leb, leb-true, leb-false}
 use Rattle.std.proofs.lemmas.List.{drop_all, drop_more}
 use Rattle.std.proofs.lemmas.List.Sums.{sum_by-cons}
-use Rattle.mmt_cast.specs.Cutting.{fitting, gathered}
+use Rattle.mmt_frag.specs.Cuts.{fitting, gathered}
 use Rattle.mmt_frag.specs.Laws.{GathersMost, gathered_bytes}
 
 pub fitting-goes_on : (header room : ℕ) (xs : List ℕ) (i : ℕ) → i < length xs → 2 + header + get_or xs i 0 ≤ room

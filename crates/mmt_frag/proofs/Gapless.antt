@@ -3,8 +3,8 @@ use Rattle.std.proofs.Common.{◌≡◌, ℕ, ◌+◌, ◌*◌, ◌<◌, ◌≤�
 use Rattle.std.proofs.Math.Nat.{mul-le-mul_right}
 use Rattle.std.proofs.lemmas.Bool.{eq-eqb, ne_eqb}
 use Rattle.std.proofs.lemmas.Grind.{div_ceil_times}
-use Rattle.mmt_cast.proofs.Parts.{joined-parts, parts-enough}
-use Rattle.mmt_cast.specs.Cutting.{part_length, parts}
+use Rattle.mmt_frag.proofs.PartsJoined.{joined-parts, parts-enough}
+use Rattle.mmt_frag.specs.Cuts.{part_length, parts}
 use Rattle.mmt_frag.specs.Fragments.{part_role}
 use Rattle.mmt_frag.specs.Laws.{CutsWithoutGap, FollowOn}
 use Rattle.mmt_model.specs.Carrying.{role}

@@ -3,9 +3,8 @@ use Rattle.std.proofs.Common.{◌≡◌, ℕ, ◌+◌, ◌*◌, ◌^◌, ◌<◌
 use Rattle.std.specs.List.{flat_map}
 use Rattle.std.proofs.lemmas.Bool.{and_from, and_right, cases_eq, cases_lt, eq-eqb, ne_eqb}
 use Rattle.std.proofs.lemmas.List.{length-map}
-use Rattle.mmt_cast.proofs.Listing.{length-numbers}
-use Rattle.mmt_cast.proofs.Parts.{joined-parts, one-part, parts-enough, parts-some}
-use Rattle.mmt_cast.specs.Cutting.{part_bytes, parts}
+use Rattle.mmt_frag.proofs.PartsJoined.{joined-parts, length-numbers, one-part, parts-enough, parts-some}
+use Rattle.mmt_frag.specs.Cuts.{part_bytes, parts}
 use Rattle.mmt_frag.proofs.Gapless.{first-role, later-role, several-role, whole-role}
 use Rattle.mmt_frag.specs.Fragments.{part_role}
 use Rattle.mmt_frag.specs.Laws.{PartsAreOneUnit, heard_part}

@@ -1,3 +1,4 @@
+pub mod PartsJoined
 pub mod Fitting
 pub mod Gapless
 pub mod Joining

@@ -1,6 +1,6 @@
 -- The parts of a unit or message, and the payload of a part.
 use Rattle.std.specs.Prelude.{◌≡◌, ℕ, ◌+◌, ◌-◌, ◌*◌, ◌==◌, Bool, true, false, min, List, [], ◌∷◌, if◌then◌else◌}
-use Rattle.mmt_cast.specs.Cutting.{part_length, parts}
+use Rattle.mmt_frag.specs.Cuts.{part_length, parts}
 use Rattle.mmt_frag.specs.declared.cutting.PartOf.{PartOf}
 use Rattle.mmt_model.specs.Carrying.{role}
 use Rattle.mmt_model.specs.declared.keys.Part.{Part}
@@ -16,7 +16,13 @@ part_role k count = if count == 1 then part.Whole else role k count
 
 -- part number k of a unit or message: where it begins, its length, which part it is, and how many follow, 255 where there are more (ISO/IEC 23008-1, the fragment counter)
 abbrev pub part_at : ℕ → ℕ → ℕ → PartOf
-part_at length limit k = record { from = k * limit; length = part_length length limit k; part = part_role k (parts length limit); left = min (parts length limit - 1 - k) 255 }
+part_at length limit k =
+    record {
+      from = k * limit;
+      length = part_length length limit k;
+      part = part_role k (parts length limit);
+      left = min (parts length limit - 1 - k) 255;
+    }
 
 -- a key is one of timed media
 abbrev pub is_timed : UnitKey → Bool

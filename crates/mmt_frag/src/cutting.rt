@@ -1,24 +1,27 @@
 //! Which parts there are, and how many units are gathered.
 
 ghost use Rattle.std.specs.Prelude.{◌≡◌, ◌<◌, ◌≤◌};
-ghost use Rattle.mmt_cast.specs.Cutting.{gathered as gathered_of, parts as parts_of};
-ghost use Rattle.mmt_frag.specs.Fragments.{part_at};
+ghost use Rattle.mmt_frag.specs.Cuts.{fitting as fitting_of, gathered as gathered_of, parts as parts_of};
+ghost use Rattle.mmt_frag.specs.Fragments.{part_at, part_role};
 ghost use Rattle.mmt_frag.specs.Laws.{CutsWithoutGap, GathersMost, PartsAreOneUnit};
 
 use mmt_model::Part;
 
-/// A part of a unit or of a message: the place of its first byte, its bytes, which part it is, and how
-/// many parts follow it, 255 where there are more (ISO/IEC 23008-1, the fragmentation indicator and the
-/// fragment counter).
+/// A part of a unit or of a message.
 #[derive(Clone, Copy, Debug, PartialEq, Eq)]
 pub struct PartOf {
+    /// The place of its first byte in the unit or message.
     pub from: u32,
+    /// Its bytes.
     pub length: u32,
+    /// Which part it is (ISO/IEC 23008-1, the fragmentation indicator).
     pub part: Part,
+    /// How many parts follow it, 255 where there are more (ISO/IEC 23008-1, the fragment counter).
     pub left: u8,
 }
 
-/// How many parts a unit or message of this length is cut into, each of at most `limit` bytes.
+/// How many parts a unit or message of `length` bytes is cut into: as few as have room for it with at most
+/// `limit` bytes each. It takes no memory.
 pub fn parts(length: u32, limit: u32) -> u32
     requires { 1 ≤ limit }
     ensures { result ≡ parts_of length limit }
@@ -26,8 +29,9 @@ pub fn parts(length: u32, limit: u32) -> u32
     length.div_ceil(limit)
 }
 
-/// Part number `number` of a unit or message.
-#[tactic(auto, unfolding(mmt_cast::specs::Cutting::part_length))]
+/// Part number `number`, counted from 0, of a unit or message of `length` bytes that is cut into parts of
+/// at most `limit` bytes: every part but the last has `limit` bytes. It takes no memory.
+#[tactic(auto, unfolding(crate::specs::Cuts::part_length))]
 pub fn part_of(length: u32, limit: u32, number: u32) -> PartOf
     requires limit { 1 ≤ limit }
     requires place { number < parts_of length limit }
@@ -43,8 +47,6 @@ pub fn part_of(length: u32, limit: u32, number: u32) -> PartOf
         left: follow.min(255) as u8,
     }
 }
-
-ghost use Rattle.mmt_frag.specs.Fragments.{part_role};
 
 /// Which part of so many it is.
 #[tactic(auto, unfolding(crate::specs::Fragments::part_role, mmt_model::specs::Carrying::role))]
@@ -63,8 +65,10 @@ fn which_part(number: u32, count: u32) -> Part
     }
 }
 
-/// How many of the first of these units go into one payload: one, or as many as have room with two
-/// bytes of length and their header each.
+/// How many of the first units go into one payload of at most `limit` bytes of units, by their lengths in
+/// bytes: each takes two bytes of length and a header of `header` bytes as well (ISO/IEC 23008-1, aggregated
+/// data units). It is at least one, also where one alone has no room, and 0 where there are none. It takes
+/// no memory.
 pub fn gathered(lengths: &[u32], header: u32, limit: u32) -> u32
     ensures { result ≡ gathered_of header limit lengths.now }
 {
@@ -74,8 +78,6 @@ pub fn gathered(lengths: &[u32], header: u32, limit: u32) -> u32
         fitting(lengths, header, limit).max(1)
     }
 }
-
-ghost use Rattle.mmt_cast.specs.Cutting.{fitting as fitting_of};
 
 /// How many of the first of these units go into so much room.
 fn fitting(lengths: &[u32], header: u32, limit: u32) -> u32

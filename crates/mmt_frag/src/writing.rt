@@ -1,7 +1,7 @@
 //! Writing a part of a unit as an MPU payload.
 
 ghost use Rattle.std.specs.Prelude.{◌≡◌, ◌≤◌, ◌++◌, length, OnOk, OnErr, Ok};
-ghost use Rattle.mmt_frag.specs.Fragments.{part_payload, IsPlainItem};
+ghost use Rattle.mmt_frag.specs.Fragments.{part_payload, is_timed as timed_of, IsPlainItem};
 ghost use Rattle.mmt_mpu.specs.Reading.{payload_of};
 ghost use Rattle.mmt_mpu.specs.Spelling.{spelling};
 
@@ -10,7 +10,9 @@ use mmt_base::OutOfMemory;
 use mmt_model::{Unit, UnitKey};
 use mmt_mpu::{DataUnit, MpuHead, MpuWriter, three_calls_write_the_payload};
 
-/// Appends a part of a unit as a whole MPU payload, with the unit's header.
+/// Appends a part of a unit of MPU number `mpu` as a whole MPU payload: 8 bytes of payload header, the unit's
+/// header of 14 bytes for timed media and 4 for an item, and the part's bytes, at most 60,000 (ISO/IEC 23008-1,
+/// the MPU payload). Each part has the unit's header.
 ///
 /// # Errors
 ///
@@ -58,8 +60,6 @@ pub fn write_part(
         }
     }
 }
-
-ghost use Rattle.mmt_frag.specs.Fragments.{is_timed as timed_of};
 
 /// Whether a key is one of timed media.
 fn is_timed(key: UnitKey) -> bool

@@ -2,7 +2,7 @@
 use Rattle.std.proofs.Common.{refl}
 use Rattle.mmt_base.specs.Ticks.{due_of}
 use Rattle.mmt_cast.specs.Casting.{cast_of, copies_as_sent, copy_as_sent, count_of_id, due_of_placed, greatest, has_table, has_unit, is_sent_before, least, mpu_as_sent, numbered_after, place_of_mpu, planned, span_of, span_of_table, span_of_unit, time_of_unit, unit_as_sent, with_number}
-use Rattle.mmt_cast.specs.Cutting.{fitting, gathered, part_length}
+use Rattle.mmt_frag.specs.Cuts.{fitting, gathered, part_length}
 use Rattle.mmt_cast.specs.Placing.{all_mpus, all_units, entry_of_mpu, flat_map_from, map_from, mpus_of, units_of}
 use Rattle.mmt_cast.specs.Sending.{candidates, carried, group_size, header_length, id_of, is_short, may_join, packet_count, packet_of, packets_of, payload_length, rap_of, sending_of_signal, sending_of_units, sendings, sendings_of_units, tick_of_packet}
 use Rattle.mmt_cast.specs.Tables.{asset_length, descriptors_length, extended_length, is_named_by, named_of_asset, table_length, table_message_length}

@@ -6,12 +6,12 @@ use Rattle.std.proofs.lemmas.List.{length-drop, length-take}
 use Rattle.std.proofs.lemmas.List.Sums.{sum_by-cons}
 use Rattle.mmt_cast.proofs.Found.{each-sent}
 use Rattle.mmt_cast.proofs.Listing.{each-at}
-use Rattle.mmt_cast.proofs.Parts.{parts-enough}
+use Rattle.mmt_frag.proofs.PartsJoined.{parts-enough}
 use Rattle.mmt_cast.proofs.Reading.{entry-of-unit}
 use Rattle.mmt_cast.proofs.Rightness.{IsRightSending}
 use Rattle.mmt_cast.proofs.SentIn.{one-mpu, right-sending}
 use Rattle.mmt_cast.specs.Casting.{cast_of, with_number}
-use Rattle.mmt_cast.specs.Cutting.{part_bytes, part_length, parts}
+use Rattle.mmt_frag.specs.Cuts.{part_bytes, part_length, parts}
 use Rattle.mmt_cast.specs.Placing.{PlacedMpu, PlacedUnit, all_units, entry_of_mpu}
 use Rattle.mmt_cast.specs.Right.{IsRight, contents_of, signal_at, unit_at, unit_bytes}
 use Rattle.mmt_cast.specs.Sending.{Sending, carried, header_length, packet_count, packet_of, payload_length}

@@ -99,8 +99,8 @@ returns c =
     (none c.start_fault-start.result _ _ _ (c.start_fault-start.ensures ∙ ap fault_of_start c.as_slice-packets.ensures) c.if-is_some-9.ensures
     (c.first_mpu.ensures)))))))))
 
-pub first_load-load-requires-clause-sorted : goal.first_load-load-requires-clause-sorted
-first_load-load-requires-clause-sorted c = sorted-from c.args.cast.now.packets (nothing c.first_gap-gap.result _ (c.first_gap-gap.ensures ∙ ap (λ (ps : List Sent). first_below (fault_of_gap ps) (length ps)) c.as_slice-packets.ensures) c.if-is_some-2.ensures)
+pub first_load-load-requires-clause-in_order : goal.first_load-load-requires-clause-in_order
+first_load-load-requires-clause-in_order c = sorted-from c.args.cast.now.packets (nothing c.first_gap-gap.result _ (c.first_gap-gap.ensures ∙ ap (λ (ps : List Sent). first_below (fault_of_gap ps) (length ps)) c.as_slice-packets.ensures) c.if-is_some-2.ensures)
 
 pub first_load-load-requires-clause-window : goal.first_load-load-requires-clause-window
 first_load-load-requires-clause-window c = window-from c.args.cast.now.params (nothing c.params_fault-params.result _ c.params_fault-params.ensures c.if-is_some.ensures)

@@ -1,7 +1,11 @@
-use Rattle.std.proofs.Common.{length, arith}
+use Rattle.std.proofs.Common.{length, arith, sym}
+use Rattle.mmt_admit.proofs.Keys.{few-live}
 use Rattle.mmt_admit.proofs.Walking.{walk-begins, walk-found, walk-passed}
 use Rattle.mmt_model.specs.Admission.{fault_of_live}
 use Rattle.mmt_admit.proofs.copies.first_live.Goals as goal
+
+pub returns-then-len-le1024 : goal.returns-then-len-le1024
+returns-then-len-le1024 c = sym (few-live c.args.cast.now (length c.args.cast.now.copies) (omega arith))
 
 pub loop-c-init : goal.loop-c-init
 loop-c-init c = walk-begins (fault_of_live c.args.cast.now)

@@ -1,5 +1,6 @@
 use Rattle.std.proofs.Common.{◌+◌, List, length, arith, ap, subst, sym, ◌-◌, ◌∙◌}
-use Rattle.mmt_admit.proofs.Sliding.{AreSorted, IsWhole, IsWindow, load-found, window-begins, window-drops, window-holds, window-next, window-takes}
+use Rattle.mmt_admit.proofs.Sliding.{IsWhole, IsWindow, load-found, window-begins, window-drops, window-holds, window-next, window-takes}
+use Rattle.mmt_admit.specs.Faults.{AreInOrder}
 use Rattle.mmt_admit.proofs.Walking.{walk-begins, walk-found, walk-passed}
 use Rattle.mmt_model.specs.Admission.{fault_of_load}
 use Rattle.mmt_model.specs.Survival.{sent_at}
@@ -35,7 +36,7 @@ returns-then-is_some c =
     } in
     walk-found (fault_of_load c.args.cast.now) c.loop-n.n (length c.args.cast.now.packets) c.unless-found.result c.loop-n.invariant.0
     (c.unless-found.ensures ∙ load-found c.args.cast.now c.as_slice-packets.result.now c.loop-n.n c.widened-window.result c.widened-bound.result c.tick_at-now.result c.loop-start.start c.loop-end.end c.loop-start.bytes
-    c.as_slice-packets.ensures c.widened-window.ensures.value c.widened-bound.ensures.value c.requires.sorted c.requires.window c.tick_at-now.ensures.value c.loop-start.invariant.0 whole)
+    c.as_slice-packets.ensures c.widened-window.ensures.value c.widened-bound.ensures.value c.requires.in_order c.requires.window c.tick_at-now.ensures.value c.loop-start.invariant.0 whole)
     c.if-is_some.ensures (omega (arith, c.loop-n-test.true, ap (λ (ps : List Sent). length ps) c.as_slice-packets.ensures))
 
 pub loop-n-preserved : goal.loop-n-preserved
@@ -47,7 +48,7 @@ loop-n-preserved c =
     } in (
       walk-passed (fault_of_load c.args.cast.now) c.loop-n.n c.unless-found.result c.loop-n.invariant.0
           (c.unless-found.ensures ∙ load-found c.args.cast.now c.as_slice-packets.result.now c.loop-n.n c.widened-window.result c.widened-bound.result c.tick_at-now.result c.loop-start.start c.loop-end.end c.loop-start.bytes
-          c.as_slice-packets.ensures c.widened-window.ensures.value c.widened-bound.ensures.value c.requires.sorted c.requires.window c.tick_at-now.ensures.value c.loop-start.invariant.0 whole)
+          c.as_slice-packets.ensures c.widened-window.ensures.value c.widened-bound.ensures.value c.requires.in_order c.requires.window c.tick_at-now.ensures.value c.loop-start.invariant.0 whole)
           c.if-is_some.ensures,
-      (λ l. window-next c.as_slice-packets.result.now c.loop-n.n c.widened-window.result c.tick_at-now.result c.loop-start.start c.loop-end.end c.loop-start.bytes (subst AreSorted (sym c.as_slice-packets.ensures) c.requires.sorted) c.tick_at-now.ensures.value l c.loop-start.invariant.0),
+      (λ l. window-next c.as_slice-packets.result.now c.loop-n.n c.widened-window.result c.tick_at-now.result c.loop-start.start c.loop-end.end c.loop-start.bytes (subst AreInOrder (sym c.as_slice-packets.ensures) c.requires.in_order) c.tick_at-now.ensures.value l c.loop-start.invariant.0),
     )

@@ -1,5 +1,5 @@
 use Rattle.std.proofs.Common.{◌≡◌, ◌+◌, ◌*◌, ◌≤◌, drop}
-use Rattle.mmt_cast.specs.Cutting.{fitting}
+use Rattle.mmt_frag.specs.Cuts.{fitting}
 use Rattle.mmt_frag.proofs.cutting.fitting.Given as goal
 
 abbrev pub invariant-loop-length : goal.invariant-loop-length

@@ -1,5 +1,0 @@
-pub mod FirstOut
-pub mod Long
-pub mod InOrder
-pub mod Putting
-pub mod Whole
