@@ -162,7 +162,8 @@ impl<'a> Model for MessageParts<'a> {
 // Where to look for the first part and for the last part of the message that the packet of this
 // span is a part of.
 fn sides_of(pool: &Pool, span: Span) -> Option<(Option<u32>, Option<u32>)>
-    ensures { result ≡ sides_by span.number (lone_at (packet_at (map heard pool.now.kept) span.packet_id span.number)) }
+    ensures { result
+        ≡ sides_by span.number (lone_at (packet_at (map heard pool.now.kept) span.packet_id span.number)) }
 {
     let before = span.number.wrapping_sub(1);
     let after = span.number.wrapping_add(1);

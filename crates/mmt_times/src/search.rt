@@ -34,7 +34,8 @@ pub(crate) fn search_of<'a>(whole: Candidates<'a>) -> Search<'a>
 /// The entries behind the first, where that is below an MPU number, or the same entries with the first
 /// of another descriptor at hand; `None` where neither is so.
 fn behind_first<'a>(mpu: u32, candidates: &Candidates<'a>) -> Option<Candidates<'a>>
-    ensures same { IfSome result (λ rest. (number : ℕ) → mpu ≤ number → for_mpu number (candidates_left rest) ≡ for_mpu number (candidates_left candidates.now)) }
+    ensures same { IfSome result (λ rest. (number : ℕ) → mpu ≤ number
+        → for_mpu number (candidates_left rest) ≡ for_mpu number (candidates_left candidates.now)) }
     ensures less { IfSome result (λ rest. size_of rest < size_of candidates.now) }
 {
     if let Some((candidate, content)) = first_candidate(&candidates.content) {
@@ -58,7 +59,8 @@ fn behind_first<'a>(mpu: u32, candidates: &Candidates<'a>) -> Option<Candidates<
 
 /// Passes the entries below an MPU number, and gives those from the first other one on.
 fn behind_lower<'a>(mpu: u32, candidates: &Candidates<'a>) -> Candidates<'a>
-    ensures { (number : ℕ) → mpu ≤ number → for_mpu number (candidates_left result) ≡ for_mpu number (candidates_left candidates.now) }
+    ensures { (number : ℕ) → mpu ≤ number
+        → for_mpu number (candidates_left result) ≡ for_mpu number (candidates_left candidates.now) }
 {
     let mut rest = *candidates;
     while let Some(after) = behind_first(mpu, &rest) {
