@@ -86,4 +86,4 @@ PartsAreOneUnit =
     (time size : ℕ → ℕ) (packet_id number : ℕ) (timed : Bool) (mpu : ℕ) (d : DataUnit) (limit : ℕ)
     → 1 ≤ limit → 1 ≤ length d.bytes → number + parts (length d.bytes) limit ≤ 2 ^ 32
     → (let n = parts (length d.bytes) limit in
-      units_of (map (heard_part time size packet_id number timed mpu d limit n) (numbers 0 n)) ≡ whole_unit packet_id number mpu d ∷ [])
+    units_of (map (heard_part time size packet_id number timed mpu d limit n) (numbers 0 n)) ≡ whole_unit packet_id number mpu d ∷ [])

@@ -154,11 +154,11 @@ group programme files messages f c x bytes most held is =
     let lf : f < length (all_units programme) = omega (arith, is.0, is.1) in
     let head : head_length timed ≡ header_length x = sym (header-is (unit_at programme f)) ∙ ap header_length is.2 in
     let r : IsRun programme files messages timed x f c =
-        run programme files messages timed x f c head
-        (λ u from below.
-        (let lu : u < length (all_units programme) = omega (arith, below, is.1) in
-        let one = one-mpu programme u f lu lf ((is.3 u from below).0 ∙ sym (ap (λ (z : PlacedUnit). z.mpu_place) is.2)) in
-        (ap (λ (m : PlacedMpu). m.in_asset.timed) one, (held.units u lu).0, (held.units u lu).1))) in
+    run programme files messages timed x f c head
+    (λ u from below.
+    (let lu : u < length (all_units programme) = omega (arith, below, is.1) in
+    let one = one-mpu programme u f lu lf ((is.3 u from below).0 ∙ sym (ap (λ (z : PlacedUnit). z.mpu_place) is.2)) in
+    (ap (λ (m : PlacedMpu). m.in_asset.timed) one, (held.units u lu).0, (held.units u lu).1))) in
     record { sendable = (mpu-fits programme files messages f lf (held.units f lf).0, r.fit, omega (arith, r.same, is.5, most)); long = omega (arith, r.long, is.4) }
 
 spelled-of : (programme : Programme) (files messages : ℕ → List ℕ) → IsRight programme → programme.limit ≤ 60000 → IsHeld programme files messages → (x : Sending) (k : ℕ) → IsRightSending programme x → k < packet_count programme x
@@ -182,9 +182,9 @@ packets-spelled programme files messages right most units signals n l =
     let contents : Contents = contents_of programme files messages in
     let p : Sent = get_or cast.packets n no_packet in
     let is : IsSpelled programme files messages p.carries p.length =
-        each-at (λ (q : Sent). IsSpelled programme files messages q.carries q.length) cast.packets n no_packet
-        (each-sent programme (λ (q : Sent). IsSpelled programme files messages q.carries q.length)
-          (λ a b x k e below. spelled-of programme files messages right most (record { units = units; signals = signals }) x k (right-sending programme a b x e) below))
-        l in
+    each-at (λ (q : Sent). IsSpelled programme files messages q.carries q.length) cast.packets n no_packet
+    (each-sent programme (λ (q : Sent). IsSpelled programme files messages q.carries q.length)
+    (λ a b x k e below. spelled-of programme files messages right most (record { units = units; signals = signals }) x k (right-sending programme a b x e) below))
+    l in
     let r = payloads-read cast contents p.carries is.sendable in
     (r.0, r.1 ∙ is.long)
