@@ -218,7 +218,7 @@ mpu_within : (s : Spot) (d : Data) → Gives (λ (m : Mpu). units_in_mpu m ≤ n
 unfolding mpu_of
 mpu_within s d =
     mpu_by (nodes d) (is_object_at s d) (number_at 0 (2 ^ 32 - 1) s 1 (codes "number") d) (number_at 0 (2 ^ 64 - 1) s 2 (codes "time") d) (number_at 0 65535 s 3 (codes "decoding_offset") d) (list_at au_at 0 (most_aus s.timed) s 4 (codes "aus") d)
-      (list_from_at unit_in 1 s 5 (codes "units") d) (no_other_at s mpu_keys d) (list_length unit_in 1 s 5 (codes "units") d)
+    (list_from_at unit_in 1 s 5 (codes "units") d) (no_other_at s mpu_keys d) (list_length unit_in 1 s 5 (codes "units") d)
 
 asset_by : (n : ℕ) (files : List (List ℕ)) (r1 : Result (Unit {0}) Refusal) (r2 : Result ℕ Refusal) (r3 : Result (List ℕ) Refusal) (r4 : Result ℕ Refusal) (r5 : Result Bool Refusal) (r6 : Result ℕ Refusal) (r7 : Result (List ℕ) Refusal) (r8 : Bool → Result (List Mpu) Refusal) (r9 : Result (Unit {0}) Refusal)
     → ((t : Bool) → Gives (λ ms. sum_by units_in_mpu ms ≤ n) (r8 t))
@@ -255,7 +255,7 @@ asset_within : (s : Spot) (files : List (List ℕ)) (d : Data) → Gives (λ (x 
 unfolding asset_of
 asset_within s files d =
     asset_by (nodes d) files (is_object_at s d) (number_at 1 65535 s 1 (codes "packet_id") d) (text_at 1 255 s 2 (codes "id") d) (kind_at s d) (boolean_at s 4 (codes "timed") d) (number_at 1 (2 ^ 32 - 1) s 5 (codes "timescale") d) (text_at 1 255 s 6 (codes "file") d)
-      (λ timed. list_from_at mpu_at 1 (record s { timed = timed }) 7 (codes "mpus") d) (no_other_at s asset_keys d) (λ timed. list_sum mpu_at units_in_mpu (λ t n e. mpu_within _ e) 1 (record s { timed = timed }) 7 (codes "mpus") d)
+    (λ timed. list_from_at mpu_at 1 (record s { timed = timed }) 7 (codes "mpus") d) (no_other_at s asset_keys d) (λ timed. list_sum mpu_at units_in_mpu (λ t n e. mpu_within _ e) 1 (record s { timed = timed }) 7 (codes "mpus") d)
 
 assets_by : (n : ℕ) (r : Result Items Refusal) (f : Items → Result (List Asset × List (List ℕ)) Refusal) → Gives (λ ds. item_nodes ds < n) r → ((ds : Items) → Gives (λ (x : List Asset × List (List ℕ)). sum_by units_of_asset x.0 ≤ item_nodes ds) (f ds))
     → Gives (λ (x : List Asset × List (List ℕ)). units_in_all x.0 < n) (r >>= f)
@@ -266,7 +266,7 @@ assets_within : (s : Spot) (d : Data) → Gives (λ (x : List Asset × List (Lis
 unfolding assets_at
 assets_within s d =
     assets_by (nodes d) (array_at 1 255 s 13 (codes "assets") d) (λ ds. each_with (asset_at s) [] 0 ds) (array_within 1 255 s 13 (codes "assets") d)
-      (λ ds. each_with_sum (asset_at s) units_of_asset (λ files n e. asset_within _ files e) [] 0 ds)
+    (λ ds. each_with_sum (asset_at s) units_of_asset (λ files n e. asset_within _ files e) [] 0 ds)
 
 abbrev fewer_than : ℕ → Programme → Type 0
 fewer_than n p = (length p.signals < n) × (units_in_all p.assets < n)
@@ -305,8 +305,8 @@ programme_within : (s : Spot) (d : Data) → Gives (fewer_than (nodes d)) (progr
 unfolding programme_at
 programme_within s d =
     programme_by (nodes d) (is_object_at s d) (sending_at s d) (text_at 1 255 s 7 (codes "package") d) (params_at s d) (number_at 0 (2 ^ 47) s 11 (codes "start") d)
-      (λ start. list_from_at signal_at 0 (record s { start = start }) 12 (codes "signalling") d) (λ start. assets_at (record s { start = start }) d) (no_other_at s top_keys d)
-      (λ start. list_length signal_at 0 (record s { start = start }) 12 (codes "signalling") d) (λ start. assets_within (record s { start = start }) d)
+    (λ start. list_from_at signal_at 0 (record s { start = start }) 12 (codes "signalling") d) (λ start. assets_at (record s { start = start }) d) (no_other_at s top_keys d)
+    (λ start. list_length signal_at 0 (record s { start = start }) 12 (codes "signalling") d) (λ start. assets_within (record s { start = start }) d)
 
 few : (n : ℕ) → n < 2 ^ 32 → (r : Result Programme Refusal) → Gives (fewer_than n) r → Gives IsFew r
 few n lt (Ok p) h = record { signals = let a = h.0 in omega arith; units = let a = h.1 in omega arith }
