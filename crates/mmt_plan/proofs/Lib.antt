@@ -10,3 +10,7 @@ pub mod Outcomes
 pub mod PlanP1
 pub mod RightFiles
 pub mod FourCharacters
+pub mod Nodes
+pub mod Gives
+pub mod Counts
+pub mod Held

@@ -6,7 +6,7 @@ use Rattle.std.specs.List.{All, sum_by}
 use Rattle.mmt_model.specs.declared.programmes.Asset.{Asset}
 use Rattle.mmt_model.specs.declared.programmes.Mpu.{Mpu}
 use Rattle.mmt_model.specs.declared.programmes.Programme.{Programme}
-use Rattle.mmt_plan.specs.Right.{IsUnitOfFile, IsMpuOfFile, IsRightMpu, IsRightAsset, IsRight, units_of_asset}
+use Rattle.mmt_plan.specs.Right.{IsUnitOfFile, IsMpuOfFile, IsRightMpu, IsRightAsset, IsRightAlone, IsFew, IsRight, units_of_asset}
 
 unit_of_file : (start : ℕ) (timed : Bool) (m : Mpu) → IsRightMpu start timed m → All IsUnitOfFile m.units
 unit_of_file start timed m right = λ k d lt. let u = right.units k d lt in record { from = u.from; some = u.some }
@@ -36,10 +36,17 @@ pub record IsAssetOfFile (files : ℕ) (a : Asset) : Type 0 where
   pub few : length a.mpus < 2 ^ 32
   pub mpus : All IsMpuOfFile a.mpus
 
+few_units : (p : Programme) → IsFew p → (k : ℕ) (d : Asset) → k < length p.assets → units_of_asset (get_or p.assets k d) < 2 ^ 32
+few_units p few k d lt = let le = get_or-le-sum_by units_of_asset p.assets k d lt in let all = few.units in omega arith
+
+-- each asset of a programme has few MPUs
+pub all_few : (p : Programme) → IsRightAlone p → IsFew p → All (λ (a : Asset). length a.mpus < 2 ^ 32) p.assets
+all_few p alone few = λ k d lt. few_mpus alone.start (length p.files) (get_or p.assets k d) (alone.assets k d lt) (few_units p few k d lt)
+
 at_place : (p : Programme) → IsRight p → (k : ℕ) (d : Asset) → k < length p.assets → IsAssetOfFile (length p.files) (get_or p.assets k d)
 at_place p right k d lt =
     let a = right.alone.assets k d lt in
-    let few : units_of_asset (get_or p.assets k d) < 2 ^ 32 = let le = get_or-le-sum_by units_of_asset p.assets k d lt in let all = right.units_few in omega arith in
+    let few : units_of_asset (get_or p.assets k d) < 2 ^ 32 = few_units p right.few k d lt in
     record { file = a.file; few = few_mpus right.alone.start (length p.files) (get_or p.assets k d) a few; mpus = mpus_of_file right.alone.start (length p.files) (get_or p.assets k d) a few }
 
 pub asset_of_file : (p : Programme) (k : ℕ) (a : Asset) → IsRight p → k < length p.assets → a ≡ get_or p.assets k a → IsAssetOfFile (length p.files) a

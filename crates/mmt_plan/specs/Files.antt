@@ -1,5 +1,6 @@
 -- The files of a programme (this project's rules).
-use Rattle.std.specs.Prelude.{◌≡◌, ℕ, ◌+◌, Bool, false, nat_le, List, [], length, get_or, Option, Some, None, Result, Ok, Err, if◌then◌else◌}
+use Rattle.std.specs.Prelude.{◌≡◌, ℕ, ◌+◌, ◌≤◌, Bool, false, nat_le, List, [], length, get_or, Option, Some, None, Result, Ok, Err, if◌then◌else◌}
+use Rattle.std.specs.List.{All}
 use Rattle.mmt_model.specs.declared.programmes.Asset.{Asset}
 use Rattle.mmt_model.specs.declared.programmes.Mpu.{Mpu}
 use Rattle.mmt_model.specs.declared.programmes.Programme.{Programme}
@@ -19,6 +20,14 @@ use Rattle.mmt_plan.specs.declared.spots.Spot.{Spot}
 abbrev pub has_bytes : Option (List ℕ) → ℕ → Bool
 has_bytes None count = false
 has_bytes (Some bytes) count = nat_le count (length bytes)
+
+-- a unit's bytes end at a place of their file or before it
+abbrev pub EndsBy : ℕ → model.Unit → Type 0
+EndsBy end u = u.from + u.length ≤ end
+
+-- so do those of each unit of an MPU
+abbrev pub MpuEndsBy : ℕ → Mpu → Type 0
+MpuEndsBy end m = All (EndsBy end) m.units
 
 -- a file has the bytes of the unit of a number in the MPU at a spot
 unfoldable pub check_unit : Option (List ℕ) → Spot → ℕ → model.Unit → Result (Unit {0}) Refusal

@@ -1,4 +1,5 @@
 pub mod Places
+pub mod Nodes
 pub mod Reading
 pub mod Members
 pub mod Aus

@@ -119,11 +119,14 @@ pub record IsRightAlone (p : Programme) : Type 0 where
   pub assets : All (IsRightAsset start (length p.files)) p.assets
   pub files : All IsFileName p.files
 
+-- a programme's signalling messages and units are few enough to be counted in 32 bits
+pub record IsFew (p : Programme) : Type 0 where
+  pub signals : length p.signals < 2 ^ 32
+  pub units : units_in_all p.assets < 2 ^ 32
+
 -- a programme is one that a plan can give
 pub record IsRight (p : Programme) : Type 0 where
   pub alone : IsRightAlone p
-  -- there are few enough to be counted in 32 bits
-  pub signals_few : length p.signals < 2 ^ 32
-  pub units_few : units_in_all p.assets < 2 ^ 32
+  pub few : IsFew p
   -- no two assets have one packet id, no two MPUs of one have one number, and each MPU that is named is there
   pub agrees : agreeing p ≡ Ok p

@@ -3,6 +3,7 @@
 ghost use Rattle.std.specs.Prelude.{◌≡◌, true, IfSome, ◌≤◌, ◌<◌, ◌+◌, ◌^◌, length, IfOk, OnOk};
 ghost use Rattle.serde_json.specs.View.{view, items_view};
 ghost use Rattle.mmt_plan.specs.Assets.{is_printed, kind_at, kind_in, asset_of, asset_at};
+ghost use Rattle.mmt_plan.specs.Nodes.{nodes, item_nodes};
 ghost use Rattle.mmt_plan.specs.Names.{with_name};
 ghost use Rattle.std.specs.List.{All};
 ghost use Rattle.mmt_plan.specs.Right.{IsFileName, IsRightAsset, is_kind};
@@ -72,6 +73,7 @@ fn kind(value: &Value, spot: Spot) -> Result<u32, Refusal>
 #[tactic(auto, unfolding(crate::specs::Assets::asset_of))]
 fn asset(alloc: Global, value: &Value, spot: Spot, files: &mut FileNames) -> Result<Asset, PlanEnd>
     requires start { spot.start ≤ 2 ^ 47 }
+    requires small { nodes (view value.now) < 2 ^ 32 }
     requires room { length files.old < 2 ^ 32 }
     ensures value { IsAnswer (asset_of spot files.old (view value.now)) (ok_map (λ x. (x, files.new)) result) }
     ensures grows { OnOk result (length files.new ≤ length files.old + 1) }
@@ -121,6 +123,7 @@ pub fn assets(
     files: &mut FileNames,
 ) -> Result<List<Asset>, PlanEnd>
     requires start { spot.start ≤ 2 ^ 47 }
+    requires small { item_nodes (items_view values.now.items) < 2 ^ 32 }
     requires room { length files.old + length values.now.items < 2 ^ 32 }
     ensures value { IsAnswer (each_with (asset_at spot) files.old 0 (items_view values.now.items))
         (ok_map (λ list. (list, files.new)) result) }

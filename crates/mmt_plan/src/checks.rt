@@ -3,7 +3,7 @@
 ghost use Rattle.std.specs.Prelude.{◌≡◌, ◌≤◌, ◌<◌, ◌^◌, ℕ, Bool, length, is_some, IsErrOf, IsTrue, IfOk, IfErr};
 ghost use Rattle.std.specs.List.{All};
 ghost use Rattle.mmt_io.specs.Port.{Rose};
-ghost use Rattle.mmt_plan.specs.Files.{has_bytes, check_unit, check_mpu, check_asset_at, files_of, IsFilesAnswer};
+ghost use Rattle.mmt_plan.specs.Files.{EndsBy, MpuEndsBy, has_bytes, check_unit, check_mpu, check_asset_at, files_of, IsFilesAnswer};
 ghost use Rattle.mmt_plan.specs.Plan.{Stays};
 ghost use Rattle.mmt_plan.specs.Right.{IsRight, IsMpuOfFile, IsUnitOfFile};
 ghost use Rattle.mmt_plan.specs.Wholes.{each_checked};
@@ -141,9 +141,14 @@ fn mpus<H: Shelf>(shelf: &mut H, name: &str, mpus: &[Mpu], spot: Spot) -> Result
     Ok(())
 }
 
-// That the file of an asset is there and has the bytes of its units.
+// That the file of an asset is there and has the bytes of its units, asked unit by unit.
 #[tactic(auto, unfolding(crate::specs::Files::check_asset_at, crate::specs::Files::is_there))]
-fn asset<H: Shelf>(shelf: &mut H, name: &str, asset: &Asset, spot: Spot) -> Result<(), FilesEnd>
+fn asset_in_parts<H: Shelf>(
+    shelf: &mut H,
+    name: &str,
+    asset: &Asset,
+    spot: Spot,
+) -> Result<(), FilesEnd>
     requires few { length asset.now.mpus < 2 ^ 32 }
     requires right { All IsMpuOfFile asset.now.mpus }
     ensures shelf { Stays (H.tells shelf.old) (H.tells shelf.new) (H.file shelf.old) (H.file shelf.new) (H.faults shelf.old) (H.faults shelf.new) }
@@ -154,6 +159,48 @@ fn asset<H: Shelf>(shelf: &mut H, name: &str, asset: &Asset, spot: Spot) -> Resu
         return Err(spot.refused(Reason::FileAbsent, 6).into());
     }
     mpus(shelf, name, asset.mpus.as_slice(), spot)
+}
+
+// Where the units of an MPU end in their file at the latest, or 1.
+fn end_of_units(units: &[Unit]) -> u64
+    requires { All IsUnitOfFile units.now }
+    ensures some { 1 ≤ result }
+    ensures ends { All (EndsBy result) units.now }
+{
+    let mut end = 1;
+    for unit in units {
+        end = end.max(unit.from + unit.length as u64);
+    }
+    end
+}
+
+// Where the units of an asset end in their file at the latest, or 1.
+fn end_of_mpus(mpus: &[Mpu]) -> u64
+    requires { All IsMpuOfFile mpus.now }
+    ensures some { 1 ≤ result }
+    ensures ends { All (MpuEndsBy result) mpus.now }
+{
+    let mut end = 1;
+    for mpu in mpus {
+        end = end.max(end_of_units(mpu.units.as_slice()));
+    }
+    end
+}
+
+// That the file of an asset is there and has the bytes of its units. A file that has the byte where they
+// all have ended is asked for no other.
+fn asset<H: Shelf>(shelf: &mut H, name: &str, asset: &Asset, spot: Spot) -> Result<(), FilesEnd>
+    requires few { length asset.now.mpus < 2 ^ 32 }
+    requires right { All IsMpuOfFile asset.now.mpus }
+    ensures shelf { Stays (H.tells shelf.old) (H.tells shelf.new) (H.file shelf.old) (H.file shelf.new) (H.faults shelf.old) (H.faults shelf.new) }
+    ensures fault { IsErrOf result FilesEnd.ReadFault → Rose (H.faults shelf.old) (H.faults shelf.new) }
+    ensures asset { IsTrue (H.tells shelf.old) → IsFilesAnswer (check_asset_at (H.file shelf.old name.now) spot asset.now) result }
+{
+    let end = end_of_mpus(asset.mpus.as_slice());
+    if has_bytes(shelf, name, end)? {
+        return Ok(());
+    }
+    asset_in_parts(shelf, name, asset, spot)
 }
 
 /// Whether the files of a right programme are there and long enough. It takes no memory.

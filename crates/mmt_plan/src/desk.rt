@@ -1,10 +1,10 @@
-//! A shelf for tests, with a plan and perhaps one file; plan P1, and plans that differ from it.
+//! Plan P1, plans that differ from it, and what is said of them.
 
-ghost use Rattle.std.specs.Prelude.{◌≤◌, length, false, None, IfOk};
+ghost use Rattle.std.specs.Prelude.{IfOk};
 ghost use Rattle.mmt_plan.specs.Right.{IsRight};
 
-use crate::{FilesEnd, PlanEnd, PlanPart, PlanPlace, Reason, check_files, read_plan};
-use mmt_io::{Shelf, ShelfFault};
+use crate::{PlanEnd, check_files, read_plan};
+use mmt_io::MemoryShelf;
 use mmt_model::Programme;
 use std::alloc::Global;
 use std::test::Fail;
@@ -12,97 +12,90 @@ use std::test::Fail;
 pub const P1: &str =
     "{\"flow\":\"ff0e0000000000000000000000000101:51300\",\"source\":\"20010db8000000000000000000000001:51300\",\"context\":1,\"full_every\":3,\"limit\":1400,\"spacing\":10,\"package\":\"p1\",\"bound\":4000,\"window\":65536,\"delay\":1000,\"start\":65536000,\"signalling\":[{\"at\":0,\"kind\":\"parameters\"},{\"at\":100,\"kind\":\"table\",\"names\":[[0,0]]}],\"assets\":[{\"packet_id\":256,\"id\":\"v\",\"type\":\"hev1\",\"timed\":true,\"timescale\":60000,\"file\":\"v.bin\",\"mpus\":[{\"number\":7,\"time\":4297114779648,\"decoding_offset\":1001,\"aus\":[[1001,1001],[2002,0]],\"units\":[{\"at\":200,\"from\":0,\"length\":3000,\"movie_fragment\":1,\"sample\":1,\"offset\":0,\"priority\":0,\"dependency\":0},{\"at\":300,\"from\":3000,\"length\":500,\"movie_fragment\":1,\"sample\":2,\"offset\":0,\"priority\":0,\"dependency\":0}]}]}]}";
 
-// A shelf with a plan and perhaps one file, which fails at a name of its own.
-#[derive(Drop)]
-pub struct Desk<'a> {
-    pub plan: &'a [u8],
-    pub file: Option<&'a [u8]>,
-    pub faults: u64,
+// P1's asset but for its MPU.
+pub const OF_ASSET: &str =
+    "\"packet_id\":257,\"id\":\"w\",\"type\":\"aapp\",\"timed\":false,\"timescale\":1";
+
+// An MPU of one item.
+pub const ITEMS: &str =
+    "{\"number\":7,\"time\":0,\"decoding_offset\":0,\"aus\":[],\"units\":[{\"at\":0,\"from\":9,\"length\":1,\"item\":1}]}";
+
+// A shelf with a plan of the name `plan` and perhaps a file of the name `v.bin`, of which these reads fail.
+pub fn shelf_of(
+    alloc: Global,
+    plan: &[u8],
+    file: Option<&[u8]>,
+    failing: &[u64],
+) -> Result<MemoryShelf, Fail> {
+    let mut shelf = MemoryShelf::new(alloc, failing.to_vec(alloc)?);
+    shelf.put("plan", plan.to_vec(alloc)?)?;
+    if let Some(bytes) = file {
+        shelf.put("v.bin", bytes.to_vec(alloc)?)?;
+    }
+    Ok(shelf)
 }
 
-// Copies what fits of the bytes behind a place.
-fn copied(bytes: &[u8], at: u64, buf: &mut [u8]) -> usize
-    ensures { result ≤ length buf.new }
+// What the bytes of a plan are.
+pub fn read(alloc: Global, plan: &[u8]) -> Result<Result<Programme, PlanEnd>, Fail>
+    ensures { IfOk result (λ r. IfOk r IsRight) }
 {
-    let rest = &bytes[bytes.len().min(at as usize)..];
-    let count = rest.len().min(buf.len());
-    buf[..count].copy_from_slice(&rest[..count]);
-    count
+    let mut shelf = shelf_of(alloc, plan, None, &[])?;
+    Ok(read_plan(alloc, &mut shelf, "plan"))
 }
 
-impl Shelf for Desk<'_> {
-    ghost tells = { λ _. false };
-
-    ghost file = { λ _ _. None };
-
-    ghost faults = { λ d. d.faults };
-
-    fn read_at(&mut self, name: &str, at: u64, buf: &mut [u8]) -> Result<usize, ShelfFault> {
-        if name == "broken" {
-            self.faults = self.faults.saturating_add(1);
-            return Err(ShelfFault::Failed);
-        }
-        if name == "plan" {
-            return Ok(copied(self.plan, at, buf));
-        }
-        match self.file {
-            Some(file) if name == "v.bin" => Ok(copied(file, at, buf)),
-            _ => Err(ShelfFault::Absent),
-        }
+// The programme that a text is.
+pub fn programme_of(alloc: Global, text: &str) -> Result<Programme, Fail>
+    ensures { IfOk result IsRight }
+{
+    match read(alloc, text.as_bytes())? {
+        Ok(programme) => Ok(programme),
+        Err(_) => Err("refused")?,
     }
 }
 
-pub fn programme_of(alloc: Global, text: &str) -> Result<Programme, PlanEnd>
-    ensures { IfOk result IsRight }
-{
-    let mut desk = Desk {
-        plan: text.as_bytes(),
-        file: None,
-        faults: 0,
+// What is printed for the bytes of a plan.
+pub fn told(alloc: Global, plan: &[u8]) -> Result<String, Fail> {
+    let text = match read(alloc, plan)? {
+        Ok(_) => format!(in alloc; "a programme")?,
+        Err(end) => format!(in alloc; "mmt: {end}")?,
     };
-    read_plan(alloc, &mut desk, "plan")
+    Ok(text)
 }
 
-// P1 with one text in it in place of another.
-pub fn changed(alloc: Global, from: &str, to: &str) -> Result<String, Fail> {
-    let (before, after) = P1.split_once(from).ok_or("not there")?;
+// A text with another in it in place of the first one of its kind.
+pub fn replaced(alloc: Global, text: &str, from: &str, to: &str) -> Result<String, Fail> {
+    let (before, after) = text.split_once(from).ok_or("not there")?;
     let text = format!(in alloc; "{before}{to}{after}")?;
     Ok(text)
 }
 
-// What is wrong with P1 where one text stands in place of another.
-pub fn wrong(alloc: Global, from: &str, to: &str) -> Result<(Reason, PlanPlace), Fail> {
-    let text = changed(alloc, from, to)?;
-    match programme_of(alloc, text.as_str()) {
-        Err(PlanEnd::Refused { reason, place }) => Ok((reason, place)),
-        Err(_) => Err("ended")?,
-        Ok(_) => Err("a programme")?,
+// P1 with each of these texts in it in place of another, one after the other.
+pub fn changed(alloc: Global, changes: &[(&str, &str)]) -> Result<String, Fail> {
+    let mut text = String::from_str(alloc, P1)?;
+    for (from, to) in changes {
+        text = replaced(alloc, text.as_str(), *from, *to)?;
     }
+    Ok(text)
 }
 
-pub fn place(part: PlanPart, a: u32, b: u32, c: u32, field: u32) -> PlanPlace {
-    PlanPlace {
-        part,
-        a,
-        b,
-        c,
-        field,
-    }
+// What is printed for P1 with one text in it in place of another.
+pub fn wrong(alloc: Global, from: &str, to: &str) -> Result<String, Fail> {
+    let text = replaced(alloc, P1, from, to)?;
+    told(alloc, text.as_bytes())
 }
 
-// What the files of a plan are, on a shelf with this file.
+// What is printed for the files of a plan, on a shelf with this file where these reads fail.
 pub fn files_of(
     alloc: Global,
     text: &str,
     file: Option<&[u8]>,
-) -> Result<Result<(), FilesEnd>, Fail> {
-    let mut desk = Desk {
-        plan: &[],
-        file,
-        faults: 0,
+    failing: &[u64],
+) -> Result<String, Fail> {
+    let programme = programme_of(alloc, text)?;
+    let mut shelf = shelf_of(alloc, b"", file, failing)?;
+    let text = match check_files(&mut shelf, &programme) {
+        Ok(()) => format!(in alloc; "right")?,
+        Err(end) => format!(in alloc; "mmt: {end}")?,
     };
-    match programme_of(alloc, text) {
-        Ok(programme) => Ok(check_files(&mut desk, &programme)),
-        Err(_) => Err("refused")?,
-    }
+    Ok(text)
 }

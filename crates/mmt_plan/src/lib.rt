@@ -4,8 +4,9 @@
 
 mod assets;
 mod aus;
+#[cfg(test)]
+mod bound_tests;
 mod checks;
-mod counts;
 #[cfg(test)]
 mod desk;
 mod ends;
@@ -16,6 +17,8 @@ mod mpus;
 mod names;
 mod parts;
 mod plans;
+#[cfg(test)]
+mod reason_tests;
 mod signals;
 mod spots;
 #[cfg(test)]

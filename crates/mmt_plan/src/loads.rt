@@ -1,6 +1,6 @@
 //! The bytes of a plan.
 
-ghost use Rattle.std.specs.Prelude.{◌≡◌, ◌<◌, length, IsErrOf};
+ghost use Rattle.std.specs.Prelude.{◌≡◌, ◌<◌, ◌≤◌, length, IfOk, IsErrOf};
 ghost use Rattle.mmt_io.specs.Port.{Rose};
 ghost use Rattle.mmt_plan.specs.Plan.{bytes_of, top_place, IsReadOf, Stays};
 ghost use Rattle.mmt_plan.specs.Reading.{ok_map};
@@ -34,10 +34,15 @@ fn load_by<H: Shelf>(
     ensures shelf { Stays (H.tells shelf.old) (H.tells shelf.new) (H.file shelf.old) (H.file shelf.new) (H.faults shelf.old) (H.faults shelf.new) }
     ensures fault { IsErrOf result PlanEnd.ReadFault → Rose (H.faults shelf.old) (H.faults shelf.new) }
     ensures bytes { IsReadOf bytes_of (H.tells shelf.old) (H.file shelf.old name.now) (ok_map (λ v. v.items) result) }
+    ensures size { IfOk result (λ v. length v.items ≤ 16777216) }
 {
     let mut bytes = Vec::new(alloc);
     'pieces: while bytes.len() <= LONGEST {
-        let count = match shelf.read_at(name, bytes.len() as u64, piece) {
+        // One byte more than the most shows that a plan is too long.
+        let at = bytes.len();
+        let room = piece.len().min(LONGEST + 1 - at);
+        let part = &mut piece[..room];
+        let count = match shelf.read_at(name, at as u64, part) {
             Ok(count) => count,
             Err(ShelfFault::Absent) => return Err(refused(Reason::PlanAbsent)),
             Err(ShelfFault::Failed) => return Err(PlanEnd::ReadFault),
@@ -45,7 +50,7 @@ fn load_by<H: Shelf>(
         if count == 0 {
             return Ok(bytes);
         }
-        match bytes.extend_from_slice(&piece[..count]) {
+        match bytes.extend_from_slice(&part[..count]) {
             Ok(()) => {}
             Err(_) => return Err(PlanEnd::OutOfMemory),
         }
@@ -58,6 +63,7 @@ pub fn load<H: Shelf>(alloc: Global, shelf: &mut H, name: &str) -> Result<Vec<u8
     ensures shelf { Stays (H.tells shelf.old) (H.tells shelf.new) (H.file shelf.old) (H.file shelf.new) (H.faults shelf.old) (H.faults shelf.new) }
     ensures fault { IsErrOf result PlanEnd.ReadFault → Rose (H.faults shelf.old) (H.faults shelf.new) }
     ensures bytes { IsReadOf bytes_of (H.tells shelf.old) (H.file shelf.old name.now) (ok_map (λ v. v.items) result) }
+    ensures size { IfOk result (λ v. length v.items ≤ 16777216) }
 {
     let mut piece = match vec![in alloc; 0u8; PIECE] {
         Ok(piece) => piece,

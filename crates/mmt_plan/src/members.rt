@@ -1,9 +1,10 @@
 //! The members of an object of a plan, each by its number and its name.
 
-ghost use Rattle.std.specs.Prelude.{◌≡◌, ◌≤◌, map, length, IfOk, Some, string_bytes};
+ghost use Rattle.std.specs.Prelude.{◌≡◌, ◌<◌, ◌≤◌, map, length, IfOk, Some, string_bytes};
 ghost use Rattle.serde_json.specs.Find.{as_object};
 ghost use Rattle.serde_json.specs.View.{view, items_view, members_view};
 ghost use Rattle.mmt_plan.specs.Reading.{ok_map};
+ghost use Rattle.mmt_plan.specs.Nodes.{nodes, item_nodes};
 ghost use Rattle.mmt_plan.specs.Members.{is_object_at, member_at, number_at, text_at, boolean_at, array_at, array_from_at, no_other_at, has_only, is_name_of};
 
 use crate::ends::{Reason, Refusal};
@@ -101,6 +102,7 @@ pub fn array<'v>(
     ensures value { ok_map (λ v. items_view v.now.items) result
         ≡ array_at least most spot field name.now (view object.now) }
     ensures size { IfOk result (λ v. (least ≤ length v.now.items) × (length v.now.items ≤ most)) }
+    ensures within { IfOk result (λ v. item_nodes (items_view v.now.items) < nodes (view object.now)) }
 {
     match member(object, spot, field, name)?.as_array() {
         Some(items) if least <= items.len() && items.len() <= most => Ok(items),
@@ -120,6 +122,7 @@ pub fn array_from<'v>(
     ensures value { ok_map (λ v. items_view v.now.items) result
         ≡ array_from_at least spot field name.now (view object.now) }
     ensures size { IfOk result (λ v. least ≤ length v.now.items) }
+    ensures within { IfOk result (λ v. item_nodes (items_view v.now.items) < nodes (view object.now)) }
 {
     match member(object, spot, field, name)?.as_array() {
         Some(items) if least <= items.len() => Ok(items),

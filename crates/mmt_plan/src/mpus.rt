@@ -1,7 +1,8 @@
 //! The MPUs of a plan.
 
-ghost use Rattle.std.specs.Prelude.{◌≡◌, ◌≤◌, ◌^◌, ℕ, IfOk};
+ghost use Rattle.std.specs.Prelude.{◌≡◌, ◌<◌, ◌≤◌, ◌^◌, ℕ, IfOk};
 ghost use Rattle.serde_json.specs.View.{view};
+ghost use Rattle.mmt_plan.specs.Nodes.{nodes};
 ghost use Rattle.mmt_plan.specs.Right.{FitsAus, IsRightMpu, IsRightUnit};
 ghost use Rattle.mmt_plan.specs.Reading.{IsAnswer};
 ghost use Rattle.mmt_plan.specs.Mpus.{mpu_of, mpu_at, unit_in, most_aus};
@@ -40,7 +41,8 @@ fn most_aus(timed: bool) -> usize
 /// The MPU that a value is.
 #[tactic(auto, unfolding(crate::specs::Mpus::mpu_of))]
 fn mpu(alloc: Global, value: &Value, spot: Spot) -> Result<Mpu, PlanEnd>
-    requires { spot.start ≤ 2 ^ 47 }
+    requires start { spot.start ≤ 2 ^ 47 }
+    requires small { nodes (view value.now) < 2 ^ 32 }
     ensures value { IsAnswer (mpu_of spot (view value.now)) result }
     ensures right { IfOk result (IsRightMpu spot.start spot.timed) }
 {

@@ -1,10 +1,11 @@
 //! A list of objects of one kind in a plan.
 
-ghost use Rattle.std.specs.Prelude.{◌≡◌, ◌≤◌, ◌^◌, ℕ, Result, length, IfOk};
+ghost use Rattle.std.specs.Prelude.{◌≡◌, ◌<◌, ◌≤◌, ◌^◌, ℕ, Result, length, IfOk};
 ghost use Rattle.std.specs.List.{All};
 ghost use Rattle.serde_json.specs.Data.{Data};
 ghost use Rattle.serde_json.specs.View.{view, items_view};
 ghost use Rattle.mmt_plan.specs.Reading.{each, IsAnswer};
+ghost use Rattle.mmt_plan.specs.Nodes.{nodes, item_nodes};
 ghost use Rattle.mmt_plan.specs.Members.{list_at, list_from_at};
 ghost use Rattle.mmt_plan.specs.declared.ends.Refusal.{Refusal as Why};
 ghost use Rattle.mmt_plan.specs.declared.spots.Spot.{Spot as At};
@@ -25,7 +26,8 @@ pub trait Part: Drop {
 
     /// The item of this number in the object at this spot.
     fn read(alloc: Global, value: &Value, spot: Spot, number: u32) -> Result<Self, PlanEnd>
-        requires { spot.start ≤ 2 ^ 47 }
+        requires start { spot.start ≤ 2 ^ 47 }
+        requires small { nodes (view value.now) < 2 ^ 32 }
         ensures value { IsAnswer (item_at spot number (view value.now)) result }
         ensures right { IfOk result (is_right spot) };
 }
@@ -36,7 +38,8 @@ pub fn read_each<P: Part>(
     values: &Vec<Value>,
     spot: Spot,
 ) -> Result<List<P>, PlanEnd>
-    requires { spot.start ≤ 2 ^ 47 }
+    requires start { spot.start ≤ 2 ^ 47 }
+    requires small { item_nodes (items_view values.now.items) < 2 ^ 32 }
     ensures value { IsAnswer (each (P.item_at spot) 0 (items_view values.now.items)) result }
     ensures right { IfOk result (λ xs. All (P.is_right spot) xs) }
     ensures count { IfOk result (λ xs. length xs ≡ length values.now.items) }
@@ -49,11 +52,7 @@ pub fn read_each<P: Part>(
             Err(end) => return Err(end),
         };
         items.push(item)?;
-        number = match number.checked_add(1) {
-            Some(next) => next,
-            // No text of a plan is that long.
-            None => return Err(PlanEnd::OutOfMemory),
-        };
+        number += 1;
     }
     Ok(items)
 }
@@ -69,7 +68,8 @@ pub fn list<P: Part>(
     least: usize,
     most: usize,
 ) -> Result<List<P>, PlanEnd>
-    requires { spot.start ≤ 2 ^ 47 }
+    requires start { spot.start ≤ 2 ^ 47 }
+    requires small { nodes (view object.now) < 2 ^ 32 }
     ensures value { IsAnswer (list_at P.item_at least most spot field name.now (view object.now)) result }
     ensures right { IfOk result (λ xs. All (P.is_right spot) xs) }
     ensures size { IfOk result (λ xs. (least ≤ length xs) × (length xs ≤ most)) }
@@ -88,7 +88,8 @@ pub fn list_from<P: Part>(
     name: &str,
     least: usize,
 ) -> Result<List<P>, PlanEnd>
-    requires { spot.start ≤ 2 ^ 47 }
+    requires start { spot.start ≤ 2 ^ 47 }
+    requires small { nodes (view object.now) < 2 ^ 32 }
     ensures value { IsAnswer (list_from_at P.item_at least spot field name.now (view object.now)) result }
     ensures right { IfOk result (λ xs. All (P.is_right spot) xs) }
     ensures size { IfOk result (λ xs. least ≤ length xs) }

@@ -1,13 +1,13 @@
 //! A plan: the programme that a file is, or the first reason why it is none.
 
-ghost use Rattle.std.specs.Prelude.{◌≡◌, IfOk, IsErrOf};
+ghost use Rattle.std.specs.Prelude.{◌≡◌, ◌≤◌, ◌+◌, length, IfOk, IsErrOf};
 ghost use Rattle.serde_json.specs.View.{view};
 ghost use Rattle.mmt_io.specs.Port.{Rose};
 ghost use Rattle.mmt_plan.specs.Plan.{json_of, programme_in, plan, IsReadOf, Stays};
+ghost use Rattle.mmt_plan.specs.Nodes.{nodes};
 ghost use Rattle.mmt_plan.specs.Right.{IsRight};
 ghost use Rattle.mmt_plan.specs.Reading.{IsAnswer, ok_map};
 
-use crate::counts::are_few;
 use crate::ends::{PlanEnd, Reason};
 use crate::loads::{load, refused};
 use crate::tops::programme;
@@ -19,7 +19,8 @@ use std::alloc::Global;
 
 // The JSON value that bytes are.
 fn value_in(alloc: Global, bytes: &[u8]) -> Result<Value, PlanEnd>
-    ensures { IsAnswer (json_of bytes.now) (ok_map view result) }
+    ensures value { IsAnswer (json_of bytes.now) (ok_map view result) }
+    ensures size { IfOk result (λ v. nodes (view v) ≤ length bytes.now + 1) }
 {
     match Value::from_slice(alloc, bytes) {
         Ok(value) => Ok(value),
@@ -36,18 +37,13 @@ fn value_in(alloc: Global, bytes: &[u8]) -> Result<Value, PlanEnd>
 // The programme that the bytes of a plan are.
 #[tactic(auto, unfolding(crate::specs::Plan::programme_in))]
 fn programme_in(alloc: Global, bytes: &[u8]) -> Result<Programme, PlanEnd>
+    requires { length bytes.now ≤ 16777216 }
     ensures value { IsAnswer (programme_in bytes.now) result }
     ensures right { IfOk result IsRight }
 {
     let value = value_in(alloc, bytes)?;
     let programme = programme(alloc, &value)?;
-    let programme = agreeing(alloc, programme)?;
-    if are_few(&programme) {
-        Ok(programme)
-    } else {
-        // No plan has that many.
-        Err(PlanEnd::OutOfMemory)
-    }
+    agreeing(alloc, programme)
 }
 
 /// The programme that the plan of a name is. It takes the memory of the plan, of its JSON value and of

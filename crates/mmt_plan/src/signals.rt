@@ -1,7 +1,8 @@
 //! The signalling messages of a plan.
 
-ghost use Rattle.std.specs.Prelude.{◌≡◌, ◌≤◌, ◌^◌, None, IfOk, true};
+ghost use Rattle.std.specs.Prelude.{◌≡◌, ◌<◌, ◌≤◌, ◌^◌, None, IfOk, true};
 ghost use Rattle.serde_json.specs.View.{view};
+ghost use Rattle.mmt_plan.specs.Nodes.{nodes};
 ghost use Rattle.mmt_plan.specs.Right.{IsFrom, IsRightSignal};
 ghost use Rattle.mmt_plan.specs.Reading.{IsAnswer};
 ghost use Rattle.mmt_plan.specs.Signals.{pair_at, is_table_at, names_at, parameters_of, table_of, is_above, rises_after, signal_of, signal_at};
@@ -65,7 +66,8 @@ fn is_above(pair: (u32, u32), last: Option<(u32, u32)>) -> bool
 // The MPUs that a table names.
 #[tactic(auto, unfolding(crate::specs::Signals::names_at))]
 fn names(alloc: Global, value: &Value, spot: Spot) -> Result<List<(u32, u32)>, PlanEnd>
-    requires { spot.start ≤ 2 ^ 47 }
+    requires start { spot.start ≤ 2 ^ 47 }
+    requires small { nodes (view value.now) < 2 ^ 32 }
     ensures value { IsAnswer (names_at spot (view value.now)) result }
     ensures right { IfOk result (λ names. rises_after None names ≡ true) }
 {
@@ -102,7 +104,8 @@ fn parameters(value: &Value, spot: Spot, at: LongTick) -> Result<Signal, Refusal
 // The table of this tick.
 #[tactic(auto, unfolding(crate::specs::Signals::table_of))]
 fn table(alloc: Global, value: &Value, spot: Spot, at: LongTick) -> Result<Signal, PlanEnd>
-    requires { spot.start ≤ 2 ^ 47 }
+    requires start { spot.start ≤ 2 ^ 47 }
+    requires small { nodes (view value.now) < 2 ^ 32 }
     ensures value { IsAnswer (table_of at spot (view value.now)) result }
     ensures right { IfOk result (λ s. IsFrom spot.start at → IsRightSignal spot.start s) }
 {
@@ -114,7 +117,8 @@ fn table(alloc: Global, value: &Value, spot: Spot, at: LongTick) -> Result<Signa
 // The signalling message that a value is.
 #[tactic(auto, unfolding(crate::specs::Signals::signal_of))]
 fn signal(alloc: Global, value: &Value, spot: Spot) -> Result<Signal, PlanEnd>
-    requires { spot.start ≤ 2 ^ 47 }
+    requires start { spot.start ≤ 2 ^ 47 }
+    requires small { nodes (view value.now) < 2 ^ 32 }
     ensures value { IsAnswer (signal_of spot (view value.now)) result }
     ensures right { IfOk result (IsRightSignal spot.start) }
 {

@@ -1,19 +1,25 @@
-//! Plan P1, and one plan for each reason.
+//! The worked plans, and texts of all kinds.
 
-use crate::desk::{Desk, P1, changed, files_of, place, programme_of, wrong};
-use crate::{FilesEnd, PlanEnd, PlanPart, Reason, read_plan};
+use crate::desk::{P1, changed, programme_of, read, told, wrong};
 use mmt_base::{LongTick, Ntp};
-use mmt_model::{Au, Params, UnitKey};
+use mmt_model::{Au, Params, Signal, Unit, UnitKey};
 use std::test::Fail;
 
 #[test]
 fn p1_is_a_programme(rt: HostRuntime) -> Result<(), Fail> {
-    let programme = programme_of(rt.alloc(), P1).ok().ok_or("refused")?;
+    let programme = programme_of(rt.alloc(), P1)?;
     assert_eq!(rt;
         programme.source.address,
         0x2001_0db8_0000_0000_0000_0000_0000_0001
     );
-    assert_eq!(rt; programme.flow.port, 51300);
+    assert_eq!(rt; programme.source.port, 51300);
+    assert_eq!(rt;
+        programme.flow.address,
+        0xff0e_0000_0000_0000_0000_0000_0000_0101
+    );
+    assert_eq!(rt; (programme.context, programme.full_every), (1, 3));
+    assert_eq!(rt; (programme.limit, programme.spacing), (1400, 10));
+    assert_eq!(rt; programme.package.as_slice(), b"p1".as_slice());
     assert_eq!(rt;
         programme.params,
         Params {
@@ -23,11 +29,30 @@ fn p1_is_a_programme(rt: HostRuntime) -> Result<(), Fail> {
         }
     );
     assert_eq!(rt; programme.signals.len(), 2);
+    assert_eq!(rt; programme.assets.len(), 1);
     assert_eq!(rt; programme.files.len(), 1);
+    Ok(())
+}
+
+#[test]
+fn p1_has_two_units_and_a_table(rt: HostRuntime) -> Result<(), Fail> {
+    let programme = programme_of(rt.alloc(), P1)?;
+    let Some(Signal::Table { at, names }) = programme.signals.get(1) else {
+        return Err("no table")?;
+    };
+    assert_eq!(rt;
+        (*at, names.get(0).copied()),
+        (LongTick(65_536_100), Some((0, 0)))
+    );
     let asset = programme.assets.get(0).ok_or("no asset")?;
-    assert_eq!(rt; asset.kind, 0x6865_7631);
+    assert_eq!(rt;
+        (asset.packet_id, asset.kind, asset.timed),
+        (256, 0x6865_7631, true)
+    );
+    assert_eq!(rt; (asset.timescale, asset.file), (60000, 0));
     let mpu = asset.mpus.get(0).ok_or("no MPU")?;
-    assert_eq!(rt; mpu.time, Ntp(4_297_114_779_648));
+    assert_eq!(rt; (mpu.number, mpu.time), (7, Ntp(4_297_114_779_648)));
+    assert_eq!(rt; mpu.decoding_offset, 1001);
     assert_eq!(rt;
         mpu.aus.get(1).copied(),
         Some(Au {
@@ -35,161 +60,264 @@ fn p1_is_a_programme(rt: HostRuntime) -> Result<(), Fail> {
             pts: 0
         })
     );
-    let unit = mpu.units.get(1).ok_or("no unit")?;
-    assert_eq!(rt; unit.at, LongTick(65_536_300));
     assert_eq!(rt;
-        unit.key,
-        UnitKey::Timed {
-            movie_fragment: 1,
-            sample: 2,
-            offset: 0
-        }
+        mpu.units.get(1).copied(),
+        Some(Unit {
+            at: LongTick(65_536_300),
+            from: 3000,
+            length: 500,
+            key: UnitKey::Timed {
+                movie_fragment: 1,
+                sample: 2,
+                offset: 0
+            },
+            priority: 0,
+            dependency: 0,
+        })
     );
     Ok(())
 }
 
 #[test]
-fn an_object_has_its_members(rt: HostRuntime) -> Result<(), Fail> {
-    let alloc = rt.alloc();
-    assert_eq!(rt;
-        wrong(alloc, "[[1001,1001],[2002,0]]", "[[1001,1001],[2002]]")?,
-        (Reason::Value, place(PlanPart::Au, 0, 0, 1, 0))
-    );
-    assert_eq!(rt;
-        wrong(alloc, "{\"at\":0,\"kind\":\"parameters\"}", "3")?,
-        (Reason::NotObject, place(PlanPart::Signal, 0, 0, 0, 0))
-    );
-    assert_eq!(rt;
-        wrong(alloc, "\"from\":3000,", "")?,
-        (Reason::Missing, place(PlanPart::Unit, 0, 0, 1, 2))
-    );
-    assert_eq!(rt;
-        wrong(alloc, "\"limit\":1400", "\"limit\":1.4e3")?,
-        (Reason::Value, place(PlanPart::Top, 0, 0, 0, 5))
-    );
-    assert_eq!(rt;
-        wrong(alloc, "\"number\":7", "\"number\":7,\"x\":0")?,
-        (Reason::UnknownKey, place(PlanPart::Mpu, 0, 0, 0, 0))
-    );
-    assert_eq!(rt;
-        wrong(
-            alloc,
-            "\"kind\":\"parameters\"",
-            "\"kind\":\"parameters\",\"names\":[]"
-        )?,
-        (Reason::UnknownKey, place(PlanPart::Signal, 0, 0, 0, 0))
-    );
-    Ok(())
-}
-
-#[test]
-fn a_value_is_in_its_range(rt: HostRuntime) -> Result<(), Fail> {
-    let alloc = rt.alloc();
-    assert_eq!(rt;
-        wrong(alloc, ":51300", ":123")?,
-        (Reason::Value, place(PlanPart::Top, 0, 0, 0, 1))
-    );
-    assert_eq!(rt;
-        wrong(alloc, "[[0,0]]", "[[0,0],[0,0]]")?,
-        (Reason::Value, place(PlanPart::Signal, 1, 0, 0, 3))
-    );
-    assert_eq!(rt;
-        wrong(alloc, "\"timed\":true", "\"timed\":false")?,
-        (Reason::Value, place(PlanPart::Mpu, 0, 0, 0, 4))
-    );
-    assert_eq!(rt;
-        wrong(alloc, "hev1", "hev")?,
-        (Reason::Value, place(PlanPart::Asset, 0, 0, 0, 3))
-    );
-    assert_eq!(rt;
-        wrong(alloc, "\"full_every\":3", "\"full_every\":-0")?,
-        (Reason::Value, place(PlanPart::Top, 0, 0, 0, 4))
-    );
-    Ok(())
-}
-
-#[test]
-fn the_objects_agree(rt: HostRuntime) -> Result<(), Fail> {
-    let alloc = rt.alloc();
-    assert_eq!(rt;
-        wrong(alloc, "[[0,0]]", "[[0,1]]")?,
-        (Reason::NoSuchMpu, place(PlanPart::Signal, 1, 0, 0, 3))
-    );
-    let mpu =
-        "{\"number\":7,\"time\":0,\"decoding_offset\":0,\"aus\":[],\"units\":[{\"at\":0,\"from\":0,\"length\":1,\"movie_fragment\":1,\"sample\":1,\"offset\":0,\"priority\":0,\"dependency\":0}]}";
-    let two = format!(in alloc; "\"mpus\":[{mpu},")?;
-    assert_eq!(rt;
-        wrong(alloc, "\"mpus\":[", two.as_str())?,
-        (Reason::MpuTwice, place(PlanPart::Mpu, 0, 1, 0, 1))
-    );
-    let asset = format!(in alloc;
-        "\"assets\":[{{\"packet_id\":256,\"id\":\"w\",\"type\":\"hev1\",\"timed\":true,\"timescale\":1,\"file\":\"w\",\"mpus\":[{mpu}]}},"
+fn p2_has_one_unit_of_16_mib(rt: HostRuntime) -> Result<(), Fail> {
+    let second =
+        ",{\"at\":300,\"from\":3000,\"length\":500,\"movie_fragment\":1,\"sample\":2,\"offset\":0,\"priority\":0,\"dependency\":0}";
+    let text = changed(
+        rt.alloc(),
+        &[
+            ("\"limit\":1400", "\"limit\":60000"),
+            ("\"bound\":4000", "\"bound\":20000000"),
+            (",[2002,0]", ""),
+            ("\"length\":3000", "\"length\":16777216"),
+            (second, ""),
+        ],
     )?;
+    let programme = programme_of(rt.alloc(), text.as_str())?;
     assert_eq!(rt;
-        wrong(alloc, "\"assets\":[", asset.as_str())?,
-        (Reason::PacketIdTwice, place(PlanPart::Asset, 1, 0, 0, 1))
+        (programme.limit, programme.params.bound),
+        (60000, 20_000_000)
+    );
+    let mpu = programme
+        .assets
+        .get(0)
+        .ok_or("no asset")?
+        .mpus
+        .get(0)
+        .ok_or("no MPU")?;
+    assert_eq!(rt; (mpu.aus.len(), mpu.units.len()), (1, 1));
+    assert_eq!(rt; mpu.units.get(0).map(|unit| unit.length), Some(16_777_216));
+    Ok(())
+}
+
+#[test]
+fn p3_has_a_second_table(rt: HostRuntime) -> Result<(), Fail> {
+    let text = changed(
+        rt.alloc(),
+        &[(
+            "[[0,0]]}",
+            "[[0,0]]},{\"at\":32800,\"kind\":\"table\",\"names\":[[0,0]]}",
+        )],
+    )?;
+    let programme = programme_of(rt.alloc(), text.as_str())?;
+    assert_eq!(rt; programme.signals.len(), 3);
+    match programme.signals.get(2) {
+        Some(Signal::Table { at, .. }) => assert_eq!(rt; *at, LongTick(65_568_800)),
+        _ => return Err("no table")?,
+    }
+    Ok(())
+}
+
+#[test]
+fn p4_is_more_than_2_to_32_ticks_long(rt: HostRuntime) -> Result<(), Fail> {
+    let mut signals = String::from_str(rt.alloc(), "[[0,0]]}")?;
+    for k in 1..=8u64 {
+        let at = k * 536_870_912;
+        let one = format!(in rt.alloc(); ",{{\"at\":{at},\"kind\":\"parameters\"}}")?;
+        signals.push_str(one.as_str())?;
+    }
+    signals.push_str(",{\"at\":4294967396,\"kind\":\"table\",\"names\":[[0,1]]}")?;
+    let mpu =
+        "\"sample\":2,\"offset\":0,\"priority\":0,\"dependency\":0}]},{\"number\":8,\"time\":285772091490304,\"decoding_offset\":1001,\"aus\":[[1001,1001]],\"units\":[{\"at\":4294967496,\"from\":0,\"length\":500,\"movie_fragment\":2,\"sample\":1,\"offset\":0,\"priority\":0,\"dependency\":0}]}";
+    let text = changed(
+        rt.alloc(),
+        &[
+            ("[[0,0]]}", signals.as_str()),
+            (
+                "\"sample\":2,\"offset\":0,\"priority\":0,\"dependency\":0}]}",
+                mpu,
+            ),
+        ],
+    )?;
+    let programme = programme_of(rt.alloc(), text.as_str())?;
+    assert_eq!(rt; programme.signals.len(), 11);
+    match programme.signals.get(9) {
+        Some(Signal::Parameters { at }) => assert_eq!(rt; *at, LongTick(4_360_503_296)),
+        _ => return Err("no buffer message")?,
+    }
+    let mpu = programme
+        .assets
+        .get(0)
+        .ok_or("no asset")?
+        .mpus
+        .get(1)
+        .ok_or("no MPU")?;
+    assert_eq!(rt; (mpu.number, mpu.time), (8, Ntp(285_772_091_490_304)));
+    assert_eq!(rt;
+        mpu.units.get(0).map(|unit| unit.at),
+        Some(LongTick(4_360_503_496))
     );
     Ok(())
 }
 
 #[test]
-fn a_file_is_a_plan(rt: HostRuntime) -> Result<(), Fail> {
-    let alloc = rt.alloc();
-    let top = place(PlanPart::Top, 0, 0, 0, 0);
-    assert_eq!(rt; wrong(alloc, "}]}]}]}", "}]}]}]")?, (Reason::NotJson, top));
-    let long = vec![in alloc; b' '; 16_777_217]?;
-    let mut desk = Desk {
-        plan: &long,
-        file: None,
-        faults: 0,
-    };
-    assert_eq!(rt;
-        read_plan(alloc, &mut desk, "plan").err(),
-        Some(PlanEnd::Refused {
-            reason: Reason::PlanLong,
-            place: top
-        })
-    );
-    assert_eq!(rt;
-        read_plan(alloc, &mut desk, "other").err(),
-        Some(PlanEnd::Refused {
-            reason: Reason::PlanAbsent,
-            place: top
-        })
-    );
-    assert_eq!(rt;
-        read_plan(alloc, &mut desk, "broken").err(),
-        Some(PlanEnd::ReadFault)
-    );
-    assert_eq!(rt; desk.faults, 1);
+fn files_are_numbered_as_they_are_first_seen(rt: HostRuntime) -> Result<(), Fail> {
+    let mut text = String::from_str(rt.alloc(), "\"assets\":[")?;
+    for (id, file) in [(1, "b"), (2, "a"), (3, "b"), (4, "v.bin"), (5, "a")] {
+        let asset = format!(in rt.alloc();
+            "{{\"packet_id\":{id},\"id\":\"w\",\"type\":\"aapp\",\"timed\":false,\"timescale\":1,\"file\":\"{file}\",\"mpus\":[{}]}},",
+            crate::desk::ITEMS
+        )?;
+        text.push_str(asset.as_str())?;
+    }
+    let text = changed(
+        rt.alloc(),
+        &[("[[0,0]]", "[[5,0]]"), ("\"assets\":[", text.as_str())],
+    )?;
+    let programme = programme_of(rt.alloc(), text.as_str())?;
+    let mut numbers = [9; 6];
+    for (number, asset) in numbers.iter_mut().zip(programme.assets.as_slice()) {
+        *number = asset.file;
+    }
+    assert_eq!(rt; &numbers, &[0, 1, 0, 2, 1, 2]);
+    let mut names = [""; 3];
+    for (name, file) in names.iter_mut().zip(programme.files.as_slice()) {
+        *name = file.as_str();
+    }
+    assert_eq!(rt; &names, &["b", "a", "v.bin"]);
     Ok(())
 }
 
 #[test]
-fn the_files_are_long_enough(rt: HostRuntime) -> Result<(), Fail> {
-    let alloc = rt.alloc();
-    let file = vec![in alloc; 0u8; 3500]?;
-    assert_eq!(rt; files_of(alloc, P1, Some(&file))?, Ok(()));
-    let short = place(PlanPart::Unit, 0, 0, 1, 3);
+fn a_name_has_escapes_and_characters_of_many_bytes(rt: HostRuntime) -> Result<(), Fail> {
+    let text = changed(
+        rt.alloc(),
+        &[
+            ("\"v.bin\"", "\"\\u0076\\n\\/\\\"é日\\ud83d\\ude00\""),
+            ("\"p1\"", "\"é\""),
+        ],
+    )?;
+    let programme = programme_of(rt.alloc(), text.as_str())?;
+    assert_eq!(rt; programme.package.as_slice(), [0xc3, 0xa9].as_slice());
     assert_eq!(rt;
-        files_of(alloc, P1, Some(&file[..3499]))?,
-        Err(FilesEnd::Refused {
-            reason: Reason::UnitShort,
-            place: short
-        })
+        programme.files.get(0).map(|name| name.as_str()),
+        Some("v\n/\"é日\u{1f600}")
     );
-    let absent = place(PlanPart::Asset, 0, 0, 0, 6);
+    Ok(())
+}
+
+#[test]
+fn the_last_of_two_equal_members_counts(rt: HostRuntime) -> Result<(), Fail> {
+    let text = changed(
+        rt.alloc(),
+        &[("\"limit\":1400", "\"limit\":\"x\",\"l\\u0069mit\":64")],
+    )?;
+    assert_eq!(rt; programme_of(rt.alloc(), text.as_str())?.limit, 64);
     assert_eq!(rt;
-        files_of(alloc, P1, None)?,
-        Err(FilesEnd::Refused {
-            reason: Reason::FileAbsent,
-            place: absent
-        })
+        wrong(rt.alloc(), "\"limit\":1400", "\"limit\":1400,\"limit\":63")?.as_str(),
+        "mmt: plan: value at top 0 0 0 field 5"
     );
-    let text = changed(alloc, "v.bin", "broken")?;
+    Ok(())
+}
+
+#[test]
+fn members_stand_in_any_order(rt: HostRuntime) -> Result<(), Fail> {
+    let text = changed(
+        rt.alloc(),
+        &[
+            (
+                "{\"at\":0,\"kind\":\"parameters\"}",
+                " {\n\"kind\"\t: \"parameters\" , \"at\":0}\r\n",
+            ),
+            ("\"packet_id\":256,", ""),
+            ("\"number\":7,", ""),
+            ("\"at\":200,\"from\":0,", "\"from\":0,"),
+            ("\"dependency\":0}", "\"dependency\":0,\"at\":200}"),
+            ("}]}]}]}", "}],\"number\":7}],\"packet_id\":256}]}"),
+            ("{\"flow\":\"ff0e0000000000000000000000000101:51300\",", "{"),
+            (
+                "\"assets\"",
+                "\"flow\":\"ff0e0000000000000000000000000101:51300\",\"assets\"",
+            ),
+        ],
+    )?;
+    let programme = programme_of(rt.alloc(), text.as_str())?;
+    let same = programme_of(rt.alloc(), P1)?;
     assert_eq!(rt;
-        files_of(alloc, text.as_str(), None)?,
-        Err(FilesEnd::ReadFault)
+        format!(in rt.alloc(); "{programme:?}")?.as_str(),
+        format!(in rt.alloc(); "{same:?}")?.as_str()
     );
+    Ok(())
+}
+
+#[test]
+fn each_prefix_of_a_plan_is_no_json(rt: HostRuntime) -> Result<(), Fail> {
+    for end in 0..P1.len() {
+        let plan = &P1.as_bytes()[..end];
+        assert_eq!(rt;
+            told(rt.alloc(), plan)?.as_str(),
+            "mmt: plan: not-json at top 0 0 0 field 0",
+            "{end} bytes"
+        );
+    }
+    assert!(rt; read(rt.alloc(), P1.as_bytes())?.is_ok());
+    Ok(())
+}
+
+#[test]
+fn texts_that_are_no_json_are_told(rt: HostRuntime) -> Result<(), Fail> {
+    let texts: [&[u8]; 9] = [
+        b"",
+        b" ",
+        b"{}{}",
+        b"{'flow':1}",
+        b"{\"flow\":01}",
+        b"{\"flow\":1e999}",
+        b"{\"flow\":1,}",
+        b"{\"\xff\":1}",
+        b"nul",
+    ];
+    for text in texts {
+        assert_eq!(rt;
+            told(rt.alloc(), text)?.as_str(),
+            "mmt: plan: not-json at top 0 0 0 field 0"
+        );
+    }
+    Ok(())
+}
+
+// P1 with a member that nests so many arrays, in an object that is one level itself.
+fn nested(rt: &HostRuntime, levels: usize) -> Result<String, Fail> {
+    let open = String::from_utf8(vec![in rt.alloc(); b'['; levels]?)
+        .ok()
+        .ok_or("no text")?;
+    let close = String::from_utf8(vec![in rt.alloc(); b']'; levels]?)
+        .ok()
+        .ok_or("no text")?;
+    let text = format!(in rt.alloc(); "{{\"deep\":{open}{close},\"flow\"")?;
+    changed(rt.alloc(), &[("{\"flow\"", text.as_str())])
+}
+
+#[test]
+fn arrays_and_objects_nest_127_levels(rt: HostRuntime) -> Result<(), Fail> {
+    assert_eq!(rt;
+        told(rt.alloc(), nested(&rt, 126)?.as_bytes())?.as_str(),
+        "mmt: plan: unknown-key at top 0 0 0 field 0"
+    );
+    for levels in [127, 100_000] {
+        assert_eq!(rt;
+            told(rt.alloc(), nested(&rt, levels)?.as_bytes())?.as_str(),
+            "mmt: plan: not-json at top 0 0 0 field 0"
+        );
+    }
     Ok(())
 }

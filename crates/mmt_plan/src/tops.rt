@@ -1,9 +1,10 @@
 //! A plan as a whole.
 
-ghost use Rattle.std.specs.Prelude.{◌≡◌, ◌≤◌, ◌^◌, [], length, IfOk, OnOk};
+ghost use Rattle.std.specs.Prelude.{◌≡◌, ◌<◌, ◌≤◌, ◌^◌, [], length, IfOk, OnOk};
 ghost use Rattle.serde_json.specs.View.{view};
 ghost use Rattle.std.specs.List.{All};
-ghost use Rattle.mmt_plan.specs.Right.{IsFileName, IsRightAsset, IsRightAlone, IsRightSending};
+ghost use Rattle.mmt_plan.specs.Nodes.{nodes};
+ghost use Rattle.mmt_plan.specs.Right.{IsFew, IsFileName, IsRightAsset, IsRightAlone, IsRightSending};
 ghost use Rattle.mmt_plan.specs.Reading.{IsAnswer, ok_map};
 ghost use Rattle.mmt_plan.specs.Tops.{sending_at, params_at, assets_at, top_spot, programme_at, programme_of};
 
@@ -93,6 +94,7 @@ fn assets_in(
     files: &mut FileNames,
 ) -> Result<List<Asset>, PlanEnd>
     requires start { spot.start ≤ 2 ^ 47 }
+    requires small { nodes (view value.now) < 2 ^ 32 }
     requires new { files.old ≡ [] }
     ensures value { IsAnswer (assets_at spot (view value.now)) (ok_map (λ list. (list, files.new)) result) }
     ensures right { IfOk result (λ list. All (IsRightAsset spot.start (length files.new)) list) }
@@ -106,6 +108,7 @@ fn assets_in(
 // The programme that a value is at a spot.
 #[tactic(auto, unfolding(crate::specs::Tops::programme_at))]
 fn programme_at(alloc: Global, value: &Value, top: Spot) -> Result<Programme, PlanEnd>
+    requires { nodes (view value.now) < 2 ^ 32 }
     ensures value { IsAnswer (programme_at top (view value.now)) result }
     ensures right { IfOk result IsRightAlone }
 {
@@ -156,8 +159,10 @@ fn programme_at(alloc: Global, value: &Value, top: Spot) -> Result<Programme, Pl
 
 /// The programme that a value is, as far as each object tells by itself.
 pub fn programme(alloc: Global, value: &Value) -> Result<Programme, PlanEnd>
+    requires { nodes (view value.now) < 2 ^ 32 }
     ensures value { IsAnswer (programme_of (view value.now)) result }
     ensures right { IfOk result IsRightAlone }
+    ensures few { IfOk result IsFew }
 {
     programme_at(alloc, value, top_spot())
 }

@@ -1,6 +1,6 @@
 //! The first of some numbers that stood before.
 
-ghost use Rattle.std.specs.Prelude.{◌≡◌, ℕ, map, [], IfOk};
+ghost use Rattle.std.specs.Prelude.{◌≡◌, ◌<◌, ◌^◌, ℕ, map, length, [], IfOk};
 ghost use Rattle.mmt_plan.specs.Twice.{first_twice};
 
 use indexmap::IndexSet;
@@ -37,6 +37,7 @@ impl Numbered for Mpu {
 /// The place of the first item whose number an earlier one has. It takes memory for the numbers, and
 /// is refused for want of memory alone.
 pub fn first_repeat<T: Numbered>(alloc: Global, items: &[T]) -> Result<Option<u32>, OutOfMemory>
+    requires { length items.now < 2 ^ 32 }
     ensures { IfOk result (λ place. place ≡ first_twice [] 0 (map T.number_of items.now)) }
 {
     let mut seen = IndexSet::new(alloc);
@@ -49,11 +50,7 @@ pub fn first_repeat<T: Numbered>(alloc: Global, items: &[T]) -> Result<Option<u3
         if !added.1 {
             return Ok(Some(place));
         }
-        place = match place.checked_add(1) {
-            Some(next) => next,
-            // No plan has that many.
-            None => return Err(OutOfMemory),
-        };
+        place += 1;
     }
     Ok(None)
 }

@@ -1,9 +1,10 @@
 //! What the objects of a plan ask of each other.
 
-ghost use Rattle.std.specs.Prelude.{◌≡◌, ℕ, List, Result, Ok, IfOk};
-ghost use Rattle.std.specs.List.{list_all};
+ghost use Rattle.std.specs.Prelude.{◌≡◌, ◌<◌, ◌^◌, ℕ, List, Result, length, IfOk};
+ghost use Rattle.std.specs.List.{All, list_all};
 ghost use Rattle.mmt_model.specs.declared.programmes.Asset.{Asset as Track};
 ghost use Rattle.mmt_plan.specs.Reading.{IsAnswer};
+ghost use Rattle.mmt_plan.specs.Right.{IsFew, IsRight, IsRightAlone};
 ghost use Rattle.mmt_plan.specs.Wholes.{are_ids_once, are_numbers_once, is_named, are_named, each_checked, agreeing};
 ghost use Rattle.mmt_plan.specs.declared.ends.Refusal.{Refusal as Why};
 
@@ -17,15 +18,19 @@ use std::alloc::Global;
 pub trait Checked {
     /// The check of an object by its number among those of its kind.
     ghost check_of: { List Track → ℕ → Self → Result (Unit {0}) Why };
+    /// An object has few enough parts to be counted in 32 bits.
+    ghost is_few: { Self → Type 0 };
 
     /// The check.
     fn check(&self, alloc: Global, assets: &[Asset], number: u32) -> Result<(), PlanEnd>
+        requires { is_few self.now }
         ensures { IsAnswer (check_of assets.now number self.now) result };
 }
 
 // That no two assets have one packet id.
 #[tactic(auto, unfolding(crate::specs::Wholes::are_ids_once))]
 fn ids(alloc: Global, assets: &[Asset]) -> Result<(), PlanEnd>
+    requires { length assets.now < 2 ^ 32 }
     ensures { IsAnswer (are_ids_once assets.now) result }
 {
     match first_repeat(alloc, assets)? {
@@ -39,6 +44,8 @@ fn ids(alloc: Global, assets: &[Asset]) -> Result<(), PlanEnd>
 
 impl Checked for Asset {
     ghost check_of = { λ _. are_numbers_once };
+
+    ghost is_few = { λ a. length a.mpus < 2 ^ 32 };
 
     // That no two of its MPUs have one number.
     #[tactic(auto, unfolding(crate::specs::Wholes::are_numbers_once))]
@@ -74,6 +81,8 @@ fn are_all_named(assets: &[Asset], names: &[(u32, u32)]) -> bool
 impl Checked for Signal {
     ghost check_of = { are_named };
 
+    ghost is_few = { λ _. Unit {0} };
+
     // That there is each MPU that it names.
     #[tactic(auto, unfolding(crate::specs::Wholes::are_named))]
     fn check(&self, _alloc: Global, assets: &[Asset], number: u32) -> Result<(), PlanEnd> {
@@ -93,6 +102,8 @@ impl Checked for Signal {
 
 // The checks of all objects of a kind, in order.
 fn check_each<T: Checked>(alloc: Global, items: &[T], assets: &[Asset]) -> Result<(), PlanEnd>
+    requires few { length items.now < 2 ^ 32 }
+    requires each { All T.is_few items.now }
     ensures { IsAnswer (each_checked (T.check_of assets.now) 0 items.now) result }
 {
     let mut number = 0u32;
@@ -101,11 +112,7 @@ fn check_each<T: Checked>(alloc: Global, items: &[T], assets: &[Asset]) -> Resul
             Ok(()) => {}
             Err(end) => return Err(end),
         }
-        number = match number.checked_add(1) {
-            Some(next) => next,
-            // No plan has that many.
-            None => return Err(PlanEnd::OutOfMemory),
-        };
+        number += 1;
     }
     Ok(())
 }
@@ -113,8 +120,10 @@ fn check_each<T: Checked>(alloc: Global, items: &[T], assets: &[Asset]) -> Resul
 /// The programme, where its objects are what they ask of each other.
 #[tactic(auto, unfolding(crate::specs::Wholes::agreeing))]
 pub fn agreeing(alloc: Global, programme: Programme) -> Result<Programme, PlanEnd>
+    requires right { IsRightAlone programme }
+    requires few { IsFew programme }
     ensures value { IsAnswer (agreeing programme) result }
-    ensures right { IfOk result (λ p. (p ≡ programme) × (agreeing p ≡ Ok p)) }
+    ensures right { IfOk result IsRight }
 {
     ids(alloc, programme.assets.as_slice())?;
     check_each(

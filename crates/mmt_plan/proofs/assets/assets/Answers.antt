@@ -4,6 +4,7 @@ use Rattle.std.proofs.lemmas.List.Elements.{All-nil}
 use Rattle.serde_json.specs.View.{view}
 use Rattle.mmt_plan.specs.Right.{IsRightAsset}
 use Rattle.mmt_plan.specs.declared.spots.Spot.{Spot}
+use Rattle.mmt_plan.proofs.Counts.{item_within}
 use Rattle.mmt_plan.proofs.RightFiles.{more_right}
 use Rattle.mmt_plan.specs.Assets.{asset_of, asset_at}
 use Rattle.mmt_plan.specs.Reading.{IsAnswer}
@@ -43,3 +44,9 @@ returns-clause-count c =
     let within : c.loop-value.value-index ≤ length c.args.values.now.items = rw (← c.deref-value-items.ensures.value) c.loop-value.auto.value-index-end in
     let count = c.loop-value.invariant.count in
     omega arith
+
+pub asset-requires-clause-small : goal.asset-requires-clause-small
+asset-requires-clause-small c =
+    let le = item_within c.args.values.now.items c.loop-value.value-index c.value-item.result (rw (← c.deref-value-items.ensures.value) c.loop-value-test.true) (rw (← c.deref-value-items.ensures.value) c.value-item.is) in
+    let small = c.requires.small in
+    omega (arith, le)

@@ -15,7 +15,7 @@ pub loop-item-preserved : goal.loop-item-preserved
 loop-item-preserved g c = record {
   seen = goes_on g.T.Numbered.number_of c.args.items.now c.loop-item.seen.keys c.insert_full.new.self.keys c.loop-item.item-index c.item-item.result c.loop-item.invariant.seen c.loop-item-test.true c.item-item.is
       (rw c.number.ensures at (stood_not c.in-Ok.added.1 _ c.in-Ok.ensures.added c.if-not-added.false)) (rw c.number.ensures at c.in-Ok.ensures.keys);
-  counted = omega (arith, c.in-Some.ensures);
+  counted = omega arith;
 }
 
 pub returns : goal.returns

@@ -15,7 +15,7 @@ pub loop-item-preserved : goal.loop-item-preserved
 loop-item-preserved g c = record {
   passed = goes_on (g.T.Checked.check_of c.args.assets.now) c.args.items.now c.loop-item.item-index c.item-item.result c.loop-item.invariant.passed c.loop-item-test.true c.item-item.is
       (subst (λ n. g.T.Checked.check_of c.args.assets.now n c.item-item.result ≡ Ok tt) c.loop-item.invariant.counted c.in-Ok.ensures);
-  counted = omega (arith, c.in-Some.ensures);
+  counted = omega arith;
 }
 
 pub returns : goal.returns
