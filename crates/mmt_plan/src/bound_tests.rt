@@ -3,220 +3,264 @@
 use crate::desk::{P1, changed, read, replaced, told, wrong};
 use std::test::Fail;
 
-// A member of P1, values that are in its range, values that are not, and its place.
-const BOUNDS: [(&str, &[&str], &[&str], &str); 27] = [
+// A member of P1, and the same with a value that is just in its range.
+const RIGHT: [(&str, &str); 45] = [
     (
         "\"ff0e0000000000000000000000000101:51300\"",
-        &[
-            "\"00000000000000000000000000000000:1\"",
-            "\"ffffffffffffffffffffffffffffffff:65535\"",
-            "\"ff0e0000000000000000000000000101:124\"",
-        ],
-        &[
-            "\"ff0e0000000000000000000000000101:0\"",
-            "\"ff0e0000000000000000000000000101:65536\"",
-            "\"ff0e0000000000000000000000000101:123\"",
-            "\"ff0e0000000000000000000000000101:0124\"",
-            "\"ff0e0000000000000000000000000101:\"",
-            "\"FF0E0000000000000000000000000101:124\"",
-            "\"f0e0000000000000000000000000101:124\"",
-            "\"\"",
-        ],
+        "\"00000000000000000000000000000000:1\"",
+    ),
+    (
+        "\"ff0e0000000000000000000000000101:51300\"",
+        "\"ffffffffffffffffffffffffffffffff:65535\"",
+    ),
+    (
+        "\"ff0e0000000000000000000000000101:51300\"",
+        "\"ff0e0000000000000000000000000101:124\"",
+    ),
+    (
+        "\"20010db8000000000000000000000001:51300\"",
+        "\"20010db8000000000000000000000001:65535\"",
+    ),
+    ("\"context\":1", "\"context\":0"),
+    ("\"context\":1", "\"context\":4095"),
+    ("\"full_every\":3", "\"full_every\":0"),
+    ("\"full_every\":3", "\"full_every\":65535"),
+    ("\"limit\":1400", "\"limit\":64"),
+    ("\"limit\":1400", "\"limit\":60000"),
+    ("\"spacing\":10", "\"spacing\":0"),
+    ("\"spacing\":10", "\"spacing\":65535"),
+    ("\"bound\":4000", "\"bound\":0"),
+    ("\"bound\":4000", "\"bound\":4294967295"),
+    ("\"window\":65536", "\"window\":0"),
+    ("\"window\":65536", "\"window\":4294967295"),
+    ("\"delay\":1000", "\"delay\":0"),
+    ("\"delay\":1000", "\"delay\":4294967295"),
+    ("\"start\":65536000", "\"start\":0"),
+    ("\"start\":65536000", "\"start\":140737488355328"),
+    ("\"at\":0", "\"at\":140737488355328"),
+    ("[[0,0]]", "[]"),
+    ("\"packet_id\":256", "\"packet_id\":1"),
+    ("\"packet_id\":256", "\"packet_id\":65535"),
+    ("\"hev1\"", "\"    \""),
+    ("\"hev1\"", "\"~~~~\""),
+    ("\"timescale\":60000", "\"timescale\":1"),
+    ("\"timescale\":60000", "\"timescale\":4294967295"),
+    ("\"number\":7", "\"number\":0"),
+    ("\"number\":7", "\"number\":4294967295"),
+    ("\"time\":4297114779648", "\"time\":0"),
+    ("\"time\":4297114779648", "\"time\":18446744073709551615"),
+    ("\"decoding_offset\":1001", "\"decoding_offset\":65535"),
+    ("[1001,1001]", "[0,65535]"),
+    ("[1001,1001]", "[65535,0]"),
+    ("\"at\":300", "\"at\":0"),
+    ("\"at\":300", "\"at\":140737488355328"),
+    ("\"from\":3000", "\"from\":1099511627776"),
+    ("\"length\":500", "\"length\":1"),
+    ("\"length\":500", "\"length\":16777216"),
+    ("\"movie_fragment\":1", "\"movie_fragment\":4294967295"),
+    ("\"sample\":2", "\"sample\":4294967295"),
+    ("\"offset\":0", "\"offset\":4294967295"),
+    ("\"priority\":0", "\"priority\":255"),
+    ("\"dependency\":0", "\"dependency\":255"),
+];
+
+// A member of P1, the same with a value that is just out of its range, and its place.
+const REFUSED: [(&str, &str, &str); 26] = [
+    (
+        "\"ff0e0000000000000000000000000101:51300\"",
+        "\"ff0e0000000000000000000000000101:0\"",
+        "top 0 0 0 field 1",
+    ),
+    (
+        "\"ff0e0000000000000000000000000101:51300\"",
+        "\"ff0e0000000000000000000000000101:65536\"",
+        "top 0 0 0 field 1",
+    ),
+    (
+        "\"ff0e0000000000000000000000000101:51300\"",
+        "\"ff0e0000000000000000000000000101:123\"",
+        "top 0 0 0 field 1",
+    ),
+    (
+        "\"ff0e0000000000000000000000000101:51300\"",
+        "\"ff0e0000000000000000000000000101:0124\"",
+        "top 0 0 0 field 1",
+    ),
+    (
+        "\"ff0e0000000000000000000000000101:51300\"",
+        "\"ff0e0000000000000000000000000101:\"",
+        "top 0 0 0 field 1",
+    ),
+    (
+        "\"ff0e0000000000000000000000000101:51300\"",
+        "\"FF0E0000000000000000000000000101:124\"",
+        "top 0 0 0 field 1",
+    ),
+    (
+        "\"ff0e0000000000000000000000000101:51300\"",
+        "\"f0e0000000000000000000000000101:124\"",
+        "top 0 0 0 field 1",
+    ),
+    (
+        "\"ff0e0000000000000000000000000101:51300\"",
+        "\"\"",
         "top 0 0 0 field 1",
     ),
     (
         "\"20010db8000000000000000000000001:51300\"",
-        &["\"20010db8000000000000000000000001:65535\""],
-        &["\"20010db8000000000000000000000001:123\"", "1"],
+        "\"20010db8000000000000000000000001:123\"",
         "top 0 0 0 field 2",
     ),
     (
-        "\"context\":1",
-        &["\"context\":0", "\"context\":4095"],
-        &["\"context\":4096"],
-        "top 0 0 0 field 3",
+        "\"20010db8000000000000000000000001:51300\"",
+        "1",
+        "top 0 0 0 field 2",
     ),
+    ("\"context\":1", "\"context\":4096", "top 0 0 0 field 3"),
     (
         "\"full_every\":3",
-        &["\"full_every\":0", "\"full_every\":65535"],
-        &["\"full_every\":65536"],
+        "\"full_every\":65536",
         "top 0 0 0 field 4",
     ),
-    (
-        "\"limit\":1400",
-        &["\"limit\":64", "\"limit\":60000"],
-        &["\"limit\":63", "\"limit\":60001"],
-        "top 0 0 0 field 5",
-    ),
-    (
-        "\"spacing\":10",
-        &["\"spacing\":0", "\"spacing\":65535"],
-        &["\"spacing\":65536"],
-        "top 0 0 0 field 6",
-    ),
+    ("\"limit\":1400", "\"limit\":63", "top 0 0 0 field 5"),
+    ("\"limit\":1400", "\"limit\":60001", "top 0 0 0 field 5"),
+    ("\"spacing\":10", "\"spacing\":65536", "top 0 0 0 field 6"),
     (
         "\"bound\":4000",
-        &["\"bound\":0", "\"bound\":4294967295"],
-        &["\"bound\":4294967296"],
+        "\"bound\":4294967296",
         "top 0 0 0 field 8",
     ),
     (
         "\"window\":65536",
-        &["\"window\":0", "\"window\":4294967295"],
-        &["\"window\":4294967296"],
+        "\"window\":4294967296",
         "top 0 0 0 field 9",
     ),
     (
         "\"delay\":1000",
-        &["\"delay\":0", "\"delay\":4294967295"],
-        &["\"delay\":4294967296"],
+        "\"delay\":4294967296",
         "top 0 0 0 field 10",
     ),
     (
         "\"start\":65536000",
-        &["\"start\":0", "\"start\":140737488355328"],
-        &[
-            "\"start\":140737488355329",
-            "\"start\":18446744073709551616",
-        ],
+        "\"start\":140737488355329",
         "top 0 0 0 field 11",
     ),
     (
-        "\"at\":0",
-        &["\"at\":140737488355328"],
-        &["\"at\":140737488355329"],
-        "signal 0 0 0 field 1",
+        "\"start\":65536000",
+        "\"start\":18446744073709551616",
+        "top 0 0 0 field 11",
     ),
-    (
-        "[[0,0]]",
-        &["[]"],
-        &[
-            "[[0,4294967296]]",
-            "[[4294967296,0]]",
-            "[[0,0],[0,0]]",
-            "[[0,1],[0,0]]",
-            "[[1,0],[0,1]]",
-            "[[0,-1]]",
-        ],
-        "signal 1 0 0 field 3",
-    ),
+    ("\"at\":0", "\"at\":140737488355329", "signal 0 0 0 field 1"),
+    ("[[0,0]]", "[[0,4294967296]]", "signal 1 0 0 field 3"),
+    ("[[0,0]]", "[[4294967296,0]]", "signal 1 0 0 field 3"),
+    ("[[0,0]]", "[[0,0],[0,0]]", "signal 1 0 0 field 3"),
+    ("[[0,0]]", "[[0,1],[0,0]]", "signal 1 0 0 field 3"),
+    ("[[0,0]]", "[[1,0],[0,1]]", "signal 1 0 0 field 3"),
+];
+
+// More of them.
+const REFUSED_TOO: [(&str, &str, &str); 26] = [
+    ("[[0,0]]", "[[0,-1]]", "signal 1 0 0 field 3"),
     (
         "\"packet_id\":256",
-        &["\"packet_id\":1", "\"packet_id\":65535"],
-        &["\"packet_id\":0", "\"packet_id\":65536"],
+        "\"packet_id\":0",
         "asset 0 0 0 field 1",
     ),
     (
-        "\"hev1\"",
-        &["\"    \"", "\"~~~~\""],
-        &[
-            "\"hev\"",
-            "\"hevc1\"",
-            "\"hev\u{7f}\"",
-            "\"éé\"",
-            "\"h\\u001fv1\"",
-        ],
-        "asset 0 0 0 field 3",
+        "\"packet_id\":256",
+        "\"packet_id\":65536",
+        "asset 0 0 0 field 1",
     ),
+    ("\"hev1\"", "\"hev\"", "asset 0 0 0 field 3"),
+    ("\"hev1\"", "\"hevc1\"", "asset 0 0 0 field 3"),
+    ("\"hev1\"", "\"hev\u{7f}\"", "asset 0 0 0 field 3"),
+    ("\"hev1\"", "\"éé\"", "asset 0 0 0 field 3"),
+    ("\"hev1\"", "\"h\\u001fv1\"", "asset 0 0 0 field 3"),
     (
         "\"timescale\":60000",
-        &["\"timescale\":1", "\"timescale\":4294967295"],
-        &["\"timescale\":0", "\"timescale\":4294967296"],
+        "\"timescale\":0",
         "asset 0 0 0 field 5",
     ),
     (
-        "\"number\":7",
-        &["\"number\":0", "\"number\":4294967295"],
-        &["\"number\":4294967296"],
-        "mpu 0 0 0 field 1",
+        "\"timescale\":60000",
+        "\"timescale\":4294967296",
+        "asset 0 0 0 field 5",
     ),
+    ("\"number\":7", "\"number\":4294967296", "mpu 0 0 0 field 1"),
     (
         "\"time\":4297114779648",
-        &["\"time\":0", "\"time\":18446744073709551615"],
-        &["\"time\":18446744073709551616"],
+        "\"time\":18446744073709551616",
         "mpu 0 0 0 field 2",
     ),
     (
         "\"decoding_offset\":1001",
-        &["\"decoding_offset\":65535"],
-        &["\"decoding_offset\":65536"],
+        "\"decoding_offset\":65536",
         "mpu 0 0 0 field 3",
     ),
-    (
-        "[1001,1001]",
-        &["[0,65535]", "[65535,0]"],
-        &["[65536,0]", "[0,65536]", "[-1,0]", "[0,1.0]"],
-        "au 0 0 0 field 0",
-    ),
-    (
-        "\"at\":300",
-        &["\"at\":0", "\"at\":140737488355328"],
-        &["\"at\":140737488355329"],
-        "unit 0 0 1 field 1",
-    ),
+    ("[1001,1001]", "[65536,0]", "au 0 0 0 field 0"),
+    ("[1001,1001]", "[0,65536]", "au 0 0 0 field 0"),
+    ("[1001,1001]", "[-1,0]", "au 0 0 0 field 0"),
+    ("[1001,1001]", "[0,1.0]", "au 0 0 0 field 0"),
+    ("\"at\":300", "\"at\":140737488355329", "unit 0 0 1 field 1"),
     (
         "\"from\":3000",
-        &["\"from\":1099511627776"],
-        &["\"from\":1099511627777"],
+        "\"from\":1099511627777",
         "unit 0 0 1 field 2",
     ),
+    ("\"length\":500", "\"length\":0", "unit 0 0 1 field 3"),
     (
         "\"length\":500",
-        &["\"length\":1", "\"length\":16777216"],
-        &["\"length\":0", "\"length\":16777217"],
+        "\"length\":16777217",
         "unit 0 0 1 field 3",
     ),
     (
         "\"movie_fragment\":1",
-        &["\"movie_fragment\":4294967295"],
-        &["\"movie_fragment\":4294967296"],
+        "\"movie_fragment\":4294967296",
         "unit 0 0 0 field 4",
     ),
     (
         "\"sample\":2",
-        &["\"sample\":4294967295"],
-        &["\"sample\":4294967296"],
+        "\"sample\":4294967296",
         "unit 0 0 1 field 5",
     ),
     (
         "\"offset\":0",
-        &["\"offset\":4294967295"],
-        &["\"offset\":4294967296"],
+        "\"offset\":4294967296",
         "unit 0 0 0 field 6",
     ),
-    (
-        "\"priority\":0",
-        &["\"priority\":255"],
-        &["\"priority\":256"],
-        "unit 0 0 0 field 7",
-    ),
+    ("\"priority\":0", "\"priority\":256", "unit 0 0 0 field 7"),
     (
         "\"dependency\":0",
-        &["\"dependency\":255"],
-        &["\"dependency\":256"],
+        "\"dependency\":256",
         "unit 0 0 0 field 8",
     ),
 ];
 
 #[test]
 fn a_value_is_right_up_to_its_bounds(rt: HostRuntime) -> Result<(), Fail> {
-    for (from, right, _, _) in BOUNDS {
-        for to in right {
-            let got = wrong(rt.alloc(), from, *to)?;
-            assert_eq!(rt; got.as_str(), "a programme");
-        }
+    for (from, to) in RIGHT {
+        let got = wrong(rt.alloc(), from, to)?;
+        assert_eq!(rt; got.as_str(), "a programme", "{to}");
     }
     Ok(())
 }
 
 #[test]
 fn a_value_past_its_bounds_is_refused(rt: HostRuntime) -> Result<(), Fail> {
-    for (from, _, refused, place) in BOUNDS {
+    for (from, to, place) in REFUSED {
         let want = format!(in rt.alloc(); "mmt: plan: value at {place}")?;
-        for to in refused {
-            let got = wrong(rt.alloc(), from, *to)?;
-            assert_eq!(rt; got.as_str(), want.as_str());
-        }
+        let got = wrong(rt.alloc(), from, to)?;
+        assert_eq!(rt; got.as_str(), want.as_str(), "{to}");
+    }
+    Ok(())
+}
+
+#[test]
+fn a_value_past_its_bounds_is_refused_farther_in(rt: HostRuntime) -> Result<(), Fail> {
+    for (from, to, place) in REFUSED_TOO {
+        let want = format!(in rt.alloc(); "mmt: plan: value at {place}")?;
+        let got = wrong(rt.alloc(), from, to)?;
+        assert_eq!(rt; got.as_str(), want.as_str(), "{to}");
     }
     Ok(())
 }
@@ -224,7 +268,7 @@ fn a_value_past_its_bounds_is_refused(rt: HostRuntime) -> Result<(), Fail> {
 #[test]
 fn texts_have_1_to_255_bytes(rt: HostRuntime) -> Result<(), Fail> {
     let alloc = rt.alloc();
-    let text = String::from_utf8(vec![in alloc; b'x'; 256]?)
+    let text = String::from_utf8(vec![in alloc; b'x'; 255]?)
         .ok()
         .ok_or("no text")?;
     for (name, place) in [
@@ -232,13 +276,13 @@ fn texts_have_1_to_255_bytes(rt: HostRuntime) -> Result<(), Fail> {
         ("\"v\"", "asset 0 0 0 field 2"),
         ("\"v.bin\"", "asset 0 0 0 field 6"),
     ] {
-        let longest = format!(in alloc; "\"{}\"", &text.as_str()[1..])?;
+        let longest = format!(in alloc; "\"{text}\"")?;
         assert_eq!(rt;
             wrong(alloc, name, longest.as_str())?.as_str(),
             "a programme"
         );
         let want = format!(in alloc; "mmt: plan: value at {place}")?;
-        let longer = format!(in alloc; "\"{text}\"")?;
+        let longer = format!(in alloc; "\"{text}x\"")?;
         assert_eq!(rt;
             wrong(alloc, name, longer.as_str())?.as_str(),
             want.as_str()

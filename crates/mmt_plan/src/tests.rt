@@ -189,11 +189,11 @@ fn files_are_numbered_as_they_are_first_seen(rt: HostRuntime) -> Result<(), Fail
         *number = asset.file;
     }
     assert_eq!(rt; &numbers, &[0, 1, 0, 2, 1, 2]);
-    let mut names = [""; 3];
-    for (name, file) in names.iter_mut().zip(programme.files.as_slice()) {
-        *name = file.as_str();
-    }
-    assert_eq!(rt; &names, &["b", "a", "v.bin"]);
+    let files = programme.files.as_slice();
+    assert_eq!(rt; files.len(), 3);
+    assert_eq!(rt; files.get(0).map(|name| name.as_str()), Some("b"));
+    assert_eq!(rt; files.get(1).map(|name| name.as_str()), Some("a"));
+    assert_eq!(rt; files.get(2).map(|name| name.as_str()), Some("v.bin"));
     Ok(())
 }
 
