@@ -13,3 +13,5 @@ pub mod Broadcast
 pub mod Expected
 pub mod Carrying
 pub mod Admission
+pub mod Right
+pub mod Received
