@@ -3,7 +3,8 @@ use Rattle.std.proofs.Common.{◌≡◌, Option, Some, None, refl}
 use Rattle.mmt_cast.specs.Casting.{cast_of}
 use Rattle.mmt_cast.specs.Headline.{ProgrammesAreDelivered}
 use Rattle.mmt_messages.specs.Headline.{SentIsReceived}
-use Rattle.mmt_messages.specs.Sent.{MessagesAreRight, message_bytes}
+use Rattle.mmt_messages.specs.Sent.{MessagesAreRight}
+use Rattle.mmt_sent.specs.Messages.{message_bytes}
 use Rattle.mmt_model.specs.Admission.{Fault, fault, fault_of_params, or_else}
 use Rattle.mmt_model.specs.declared.programmes.Programme.{Programme}
 use Rattle.mmt_naming.specs.Findings.{names_in}

@@ -1,4 +1,3 @@
 pub mod Messages
 pub mod Headline
-pub mod Computing
 pub mod Fitting

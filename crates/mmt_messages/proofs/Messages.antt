@@ -17,7 +17,8 @@ use Rattle.mmt_cast.specs.Tables.{table_length, table_message_length}
 use Rattle.mmt_cast.specs.TablesRead.{AreRising, FitsFields}
 use Rattle.mmt_fields.proofs.Numbers.{length_big_endian}
 use Rattle.mmt_fields.specs.Reading.{big_endian}
-use Rattle.mmt_messages.specs.Sent.{FitsBytes, MessagesAreRight, NamesRise, message_bytes, message_of_signal, tables_before}
+use Rattle.mmt_messages.specs.Sent.{FitsBytes, MessagesAreRight, NamesRise}
+use Rattle.mmt_sent.specs.Messages.{message_bytes, message_of_signal, tables_before}
 use Rattle.mmt_model.specs.Admission.{Fault, fault_of_params, or_else, unless}
 use Rattle.mmt_model.specs.Entries.{Entry}
 use Rattle.mmt_model.specs.declared.programmes.Params.{Params}

@@ -4,7 +4,8 @@ use Rattle.mmt_cast.specs.Casting.{cast_of}
 use Rattle.mmt_cast.specs.Refusing.{refusal}
 use Rattle.mmt_cast.specs.Right.{IsRight, contents_of}
 use Rattle.mmt_delivery.specs.Laws.{IsReceiver, out_end, reading_of}
-use Rattle.mmt_messages.specs.Sent.{FitsBytes, message_bytes}
+use Rattle.mmt_messages.specs.Sent.{FitsBytes}
+use Rattle.mmt_sent.specs.Messages.{message_bytes}
 use Rattle.mmt_model.specs.Admission.{fault}
 use Rattle.mmt_model.specs.Carrying.{broadcast_of, packets_of}
 use Rattle.mmt_model.specs.Delivery.{NearDelivery, from_first, from_heard, newest_first, tuned}

@@ -20,7 +20,7 @@ use Rattle.mmt_mpt.specs.Location.{location_bytes}
 use Rattle.mmt_mpt.specs.Table.{mpt_inner, mpt_spelling}
 use Rattle.mmt_times.specs.Extended.{au_bytes, extended_bytes, mpu_bytes}
 use Rattle.mmt_times.specs.Stamps.{pair_bytes, stamps_bytes}
-use Rattle.mmt_messages.specs.Sent.{MessagesOfPlanOne, message_bytes, message_of_signal, tables_before}
+use Rattle.mmt_sent.specs.Messages.{MessagesOfPlanOne, message_bytes, message_of_signal, tables_before}
 use Rattle.mmt_cast.specs.Right.{signal_at}
 use Rattle.mmt_sig.specs.Message.{hrbm_bytes, message_spelling, pa_bytes, pa_inner}
 

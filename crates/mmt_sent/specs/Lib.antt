@@ -1,0 +1,4 @@
+pub mod Messages
+pub mod Payloads
+pub mod Packets
+pub mod Stream
