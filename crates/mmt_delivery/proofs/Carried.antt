@@ -86,7 +86,7 @@ found-signal (c ∷ cs) s l = go (c.signal == s) refl l (λ h. found-signal cs s
     go true e h ih = eqb-true c.signal s e
     go false e h ih = ih (omega (arith, h))
 
-signal-is : (cast : Cast) (s : ℕ) → copy_place cast.copies s < length cast.copies → (table_copy cast (copy_place cast.copies s)).signal ≡ s
+pub signal-is : (cast : Cast) (s : ℕ) → copy_place cast.copies s < length cast.copies → (table_copy cast (copy_place cast.copies s)).signal ≡ s
 unfolding table_copy
 signal-is cast s l = found-signal cast.copies s l
 
@@ -194,7 +194,7 @@ laid-unit cast contents u l sent =
       whole = sent.whole;
     }
 
-laid : (cast : Cast) (contents : Contents) (names_in : List ℕ → List Entry) → IsCastOf cast contents names_in → IsLaid (broadcast_of cast contents) (layout_of cast contents)
+pub laid : (cast : Cast) (contents : Contents) (names_in : List ℕ → List Entry) → IsCastOf cast contents names_in → IsLaid (broadcast_of cast contents) (layout_of cast contents)
 unfolding payload_of
 laid cast contents names_in right =
     record {
@@ -221,7 +221,7 @@ laid-copy cast contents names_in c l sent =
       short = sent.short;
     }
 
-laid-copies : (cast : Cast) (contents : Contents) (names_in : List ℕ → List Entry) → IsCastOf cast contents names_in → AreLaidCopies (broadcast_of cast contents) names_in (layout_of cast contents)
+pub laid-copies : (cast : Cast) (contents : Contents) (names_in : List ℕ → List Entry) → IsCastOf cast contents names_in → AreLaidCopies (broadcast_of cast contents) names_in (layout_of cast contents)
 laid-copies cast contents names_in right =
     record {
       copy = λ c lc. (let l : c < length cast.copies = omega (arith, lc, copies-many cast contents) in laid-copy cast contents names_in c l (right.copy c l));

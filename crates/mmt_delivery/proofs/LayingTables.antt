@@ -179,7 +179,7 @@ each-map P f a (suc c) h = (
 )
 
 -- a table copy in parts, as the receiver finds it
-table-of : (broadcast : Broadcast) (names_in : List ℕ → List Entry) (l : Layout) (c d f : ℕ) → IsLaid broadcast l → IsLaidCopy broadcast names_in l c → l.copy_count c ≡ suc (suc d) → f ≡ place_of broadcast.cast.packets.sent 0 (l.copy_first c)
+pub table-of : (broadcast : Broadcast) (names_in : List ℕ → List Entry) (l : Layout) (c d f : ℕ) → IsLaid broadcast l → IsLaidCopy broadcast names_in l c → l.copy_count c ≡ suc (suc d) → f ≡ place_of broadcast.cast.packets.sent 0 (l.copy_first c)
     → IsTable broadcast.cast.packets (heads broadcast l) (tails broadcast l) f (l.copy_part c 0)
 unfolding heard_of numbers
 table-of broadcast names_in l c d f laid copy s is =
@@ -219,11 +219,17 @@ table-of broadcast names_in l c d f laid copy s is =
     length-places f a zero = refl
     length-places f a (suc c) = ap suc (length-places f (a + 1) c)
 
+-- its bytes are those of all parts
+pub table-bytes : (broadcast : Broadcast) (names_in : List ℕ → List Entry) (l : Layout) (c d f : ℕ) → (laid : IsLaid broadcast l) → (copy : IsLaidCopy broadcast names_in l c) → (s : l.copy_count c ≡ suc (suc d)) → (is : f ≡ place_of broadcast.cast.packets.sent 0 (l.copy_first c))
+    → joined (l.copy_part c 0 ∷ (table-of broadcast names_in l c d f laid copy s is).parts) ≡ joined (map (l.copy_part c) (numbers 0 (suc (suc d))))
+unfolding table-of numbers
+table-bytes broadcast names_in l c d f laid copy s is = refl
+
 only_one : (c k i j : ℕ) → holds_copy_part i j (Holding.TablePart c k) ≡ true → i ≡ c
 unfolding holds_copy_part
 only_one c k i j h = sym (eqb-true c i (and_parts (c == i) (j == k) h).0)
 
-first-part : (l : Layout) (c : ℕ) → payload_by l (Holding.TablePart c 0) ≡ Payload.Signalling parts.First (l.copy_part c 0 ∷ [])
+pub first-part : (l : Layout) (c : ℕ) → payload_by l (Holding.TablePart c 0) ≡ Payload.Signalling parts.First (l.copy_part c 0 ∷ [])
 unfolding payload_by role
 first-part l c = refl
 

@@ -88,7 +88,7 @@ unfolding last_at member
 last_at-le cast [] b h = omega arith
 last_at-le cast (k ∷ ks) b h = omega (arith, h k (or_left (k == k) (list_any (λ j. j == k) ks) (eq-eqb k k refl)), last_at-le cast ks b (λ j m. h j (or_right (k == j) (list_any (λ i. i == j) ks) m)))
 
-first_member : (k : ℕ) (ks : List ℕ) → member k (k ∷ ks) ≡ true
+pub first_member : (k : ℕ) (ks : List ℕ) → member k (k ∷ ks) ≡ true
 unfolding member
 first_member k ks = or_left (k == k) (list_any (λ j. j == k) ks) (eq-eqb k k refl)
 
@@ -168,7 +168,7 @@ few_live cast r start hist xs naming h =
     (cases_Bool (list_any (λ c. is_complete cast r.delay hist c.members) cast.copies))
 
 -- whether a list of entries has this MPU
-has_entry : (cast : NamedCast) (r : Params) (m : ℕ) (xs : List ℕ) → IsNaming cast r → m < length cast.mpus → ((k : ℕ) → 0 < occurrences k xs → k < length cast.mpus)
+pub has_entry : (cast : NamedCast) (r : Params) (m : ℕ) (xs : List ℕ) → IsNaming cast r → m < length cast.mpus → ((k : ℕ) → 0 < occurrences k xs → k < length cast.mpus)
     → list_any (is_of_same_mpu (entry_of cast m)) (map (entry_of cast) xs) ≡ member m xs
 unfolding is_of_same_mpu member
 has_entry cast r m xs naming lm below =
@@ -182,7 +182,7 @@ has_entry cast r m xs naming lm below =
     different : (a b c d : ℕ) → (a ≡ b → c ≡ d → ⊥) → ((a == b) && (c == d)) ≡ false
     different a b c d h = grind (arith, nat_tests)
 
-later_member : (k m : ℕ) (ms : List ℕ) → member k ms ≡ true → member k (m ∷ ms) ≡ true
+pub later_member : (k m : ℕ) (ms : List ℕ) → member k ms ≡ true → member k (m ∷ ms) ≡ true
 unfolding member
 later_member k m ms h = or_right (m == k) (list_any (λ j. j == k) ms) h
 
@@ -277,7 +277,7 @@ held-new cast r start n older new =
     let more : List ℕ = insert_by (place_before cast.packets) n rest in
     rw new (member-occurrences n more ∙ lt-ltb 0 (occurrences n more) (omega (arith, occurrences-insert (place_before cast.packets) n n rest, ap as_number (eq-eqb n n refl))))
 
-names_by-new : (names_by : List Heard → Heard → List Entry) (cast : NamedCast) (r : Params) (start n : ℕ) (older : List ℕ) → IsTelling names_by cast → r.delay < r.window → AreOf cast.packets.sent (n ∷ older) → Begins cast.packets.sent start (n ∷ older)
+pub names_by-new : (names_by : List Heard → Heard → List Entry) (cast : NamedCast) (r : Params) (start n : ℕ) (older : List ℕ) → IsTelling names_by cast → r.delay < r.window → AreOf cast.packets.sent (n ∷ older) → Begins cast.packets.sent start (n ∷ older)
     → (new : Bool) → is_new cast r start n older ≡ new
     → cond new (names_by (map (heard_of cast.packets) (held cast.packets r start (n ∷ older))) (heard_of cast.packets n)) []
     ≡ map (entry_of cast) (cond new (names_made_known cast (held cast.packets r start (n ∷ older)) n) [])

@@ -21,5 +21,6 @@ pub mod Laying
 pub mod LayingTables
 pub mod Carried
 pub mod Faultless
+pub mod Told
 pub mod Theorem
 pub mod Working

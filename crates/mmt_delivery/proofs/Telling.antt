@@ -103,7 +103,7 @@ message-cond packets f b parts true = refl
 message-cond packets f b parts false = refl
 
 -- the message that begins with the first packet of a table, where all of it is kept
-message_at : (packets : SentPackets) (head : ℕ → ℕ) (tail : ℕ → List ℕ) (ks : List ℕ) (f : ℕ) (b : List ℕ) → IsApart packets → ((k : ℕ) → 0 < occurrences k ks → k < length packets.sent)
+pub message_at : (packets : SentPackets) (head : ℕ → ℕ) (tail : ℕ → List ℕ) (ks : List ℕ) (f : ℕ) (b : List ℕ) → IsApart packets → ((k : ℕ) → 0 < occurrences k ks → k < length packets.sent)
     → (table : IsTable packets head tail f b) → payload_of packets f ≡ Payload.Signalling parts.First (b ∷ [])
     → message_by (map (heard_of packets) ks) (heard_of packets f) (heard_of packets f).payload ≡ cond (list_all (λ k. member k ks) (tail f)) (message_of packets f b table.parts ∷ []) []
 unfolding message_by

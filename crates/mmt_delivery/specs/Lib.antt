@@ -1,2 +1,3 @@
 pub mod Laws
 pub mod WorkedPlan
+pub mod Tables

@@ -4,6 +4,7 @@
 #![tactic(auto)]
 
 ghost use Rattle.mmt_delivery.specs.Laws.{Delivers, OutcomesAre, HoldsAlways, PeakFits, ShortIsNear};
+ghost use Rattle.mmt_delivery.specs.Tables.{MessagesAreSent, NamesAreLearned};
 ghost use Rattle.mmt_delivery.specs.WorkedPlan.{IsRightPlan, IsDelivered};
 
 /// Of a cast without a fault, with the contents of a right programme, and of any near delivery of it:
@@ -49,4 +50,15 @@ pub fn worked_plan_is_right()
 /// what the definitions of the receiver give is what those of the expected units give.
 pub fn worked_deliveries_agree()
     ensures { IsDelivered }
+{}
+
+/// Each name in the messages of a stored packet of such a delivery is among the live entries, and no other
+/// entry of its MPU is there. So none is left out, and none differs.
+pub fn names_are_learned()
+    ensures { NamesAreLearned }
+{}
+
+/// Each message in parts that is whole in the kept packets of such a delivery is a table of the cast.
+pub fn messages_are_sent()
+    ensures { MessagesAreSent }
 {}
