@@ -2,7 +2,7 @@
 //! holds of programmes with nothing left open but their files.
 #![tactic(auto)]
 
-ghost use Rattle.mmt_messages.specs.Sent.{MessagesAreRight, MessagesOfPlanOne, PlanOneFits};
+ghost use Rattle.mmt_messages.specs.Sent.{MessagesAreRight, MessagesOfPlanOne, PlanOneFits, RightProgrammesFitBytes};
 ghost use Rattle.mmt_messages.specs.Headline.{SentIsReceived};
 
 use mmt_cast::programmes_are_delivered;
@@ -11,6 +11,11 @@ use mmt_cast::programmes_are_delivered;
 pub fn plan_one_computes()
     ensures computes { MessagesOfPlanOne }
     ensures fits { PlanOneFits }
+{}
+
+/// What is written of a right programme that has a cast fits its fields.
+pub fn right_programmes_fit_bytes()
+    ensures { RightProgrammesFitBytes }
 {}
 
 /// The messages that are sent of a right programme are such as its cast asks for.
