@@ -13,7 +13,7 @@ first-none : (a b : Option Fault) → or_else a b ≡ None → a ≡ None
 first-none None b e = refl
 first-none (Some r) b e = absurd cc
 
-values : (programme : Programme) → fault (cast_of programme) ≡ None → fault_of_params programme.params ≡ None
+pub values : (programme : Programme) → fault (cast_of programme) ≡ None → fault_of_params programme.params ≡ None
 unfolding fault cast_of
 values programme e = first-none _ _ e
 

@@ -1,3 +1,4 @@
 pub mod Messages
 pub mod Headline
 pub mod Fitting
+pub mod Found

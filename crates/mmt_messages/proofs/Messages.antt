@@ -11,16 +11,18 @@ use Rattle.mmt_cast.proofs.Tables.{tables-read}
 use Rattle.mmt_cast.specs.Casting.{place_of_mpu}
 use Rattle.mmt_cast.specs.Placing.{all_mpus, entry_of_mpu}
 use Rattle.mmt_cast.specs.Refusing.{refusal}
-use Rattle.mmt_cast.specs.Right.{IsKnown, IsMessage, IsRight, NamesKnown, mpu_at, signal_at}
+use Rattle.mmt_cast.specs.Right.{IsMessage, IsRight, NamesKnown, mpu_at, signal_at}
 use Rattle.mmt_cast.specs.SentTables.{sent_table}
 use Rattle.mmt_cast.specs.Tables.{table_length, table_message_length}
-use Rattle.mmt_cast.specs.TablesRead.{AreRising, FitsFields}
+use Rattle.mmt_cast.specs.TablesRead.{FitsFields}
 use Rattle.mmt_fields.proofs.Numbers.{length_big_endian}
 use Rattle.mmt_fields.specs.Reading.{big_endian}
-use Rattle.mmt_messages.specs.Sent.{FitsBytes, MessagesAreRight, NamesRise}
+use Rattle.mmt_cast.specs.FromRight.{NamesRise}
+use Rattle.mmt_messages.specs.Sent.{FitsBytes, MessagesAreRight}
 use Rattle.mmt_sent.specs.Messages.{message_bytes, message_of_signal, tables_before}
 use Rattle.mmt_model.specs.Admission.{Fault, fault_of_params, or_else, unless}
 use Rattle.mmt_model.specs.Entries.{Entry}
+use Rattle.mmt_model.specs.Right.{AreRising, IsKnown}
 use Rattle.mmt_model.specs.declared.programmes.Params.{Params}
 use Rattle.mmt_model.specs.declared.programmes.Programme.{Programme}
 use Rattle.mmt_model.specs.declared.programmes.Signal.{Signal}
@@ -53,7 +55,7 @@ unless-none true rule number found allowed e = refl
 unless-none false rule number found allowed e = absurd cc
 
 -- values without a fault may be carried
-values-right : (p : Params) → fault_of_params p ≡ None → AreRight p
+pub values-right : (p : Params) → fault_of_params p ≡ None → AreRight p
 unfolding fault_of_params
 values-right p e =
     let e2 = later-none _ _ e in
@@ -84,7 +86,7 @@ pub record HasHeader (v : MptValue) : Type 0 where
   pub long : length (mpt_spelling v) ≡ 4 + length (mpt_inner v)
   pub rest : drop 4 (mpt_spelling v) ≡ mpt_inner v
 
-has-header : (v : MptValue) → v.version < 2 ^ 8 → HasHeader v
+pub has-header : (v : MptValue) → v.version < 2 ^ 8 → HasHeader v
 unfolding mpt_spelling
 has-header v l =
     let inner : List ℕ = mpt_inner v in
@@ -112,7 +114,7 @@ headed v h =
     ∙ (ap₂ (λ i x. with_header i x (length (mpt_inner v)) (mpt_inner v)) (sym h.id) (sym h.version)
     ∙ ap₂ (λ k r. with_header (get_or (mpt_spelling v) 0 0) (get_or (mpt_spelling v) 1 0) k r) n (sym h.rest))
 
-pa-fits : (v : MptValue) → v.version < 2 ^ 8 → length (mpt_spelling v) ≤ 65535 → PaFits (record { version = 0; tables = listed_table (mpt_spelling v) ∷ [] })
+pub pa-fits : (v : MptValue) → v.version < 2 ^ 8 → length (mpt_spelling v) ≤ 65535 → PaFits (record { version = 0; tables = listed_table (mpt_spelling v) ∷ [] })
 pa-fits v l short =
     let table : List ℕ = mpt_spelling v in
     let h = has-header v l in
@@ -144,10 +146,10 @@ entries-back : {X : Type 0} (f : X → Entry) (xs : List X) → flat_map entry_i
 entries-back f [] = refl
 entries-back f (x ∷ xs) = ap (λ l. f x ∷ l) (entries-back f xs)
 
-fields : (programme : Programme) → FitsBytes programme → FitsFields programme
+pub fields : (programme : Programme) → FitsBytes programme → FitsFields programme
 fields programme f = record { package_id = f.package_id; assets = f.assets; each = f.each; mpus = f.mpus }
 
-version-is : (programme : Programme) (version : ℕ) (names : List (ℕ × ℕ)) → (sent_table programme version names).version ≡ version
+pub version-is : (programme : Programme) (version : ℕ) (names : List (ℕ × ℕ)) → (sent_table programme version names).version ≡ version
 unfolding sent_table
 version-is programme version names = refl
 
@@ -155,7 +157,7 @@ message-long : (programme : Programme) (version : ℕ) (names : List (ℕ × ℕ
 unfolding table_message_length
 message-long programme version names = omega (arith, pa-long (mpt_spelling (sent_table programme version names)), (tables-spelled programme version names).0)
 
-table-names : (programme : Programme) (timescale version : ℕ) (names : List (ℕ × ℕ)) → IsRight programme → FitsBytes programme → version < 2 ^ 8 → table_length programme names ≤ 65535 → AreRising names → AllByRecursion (IsKnown programme) names
+table-names : (programme : Programme) (timescale version : ℕ) (names : List (ℕ × ℕ)) → IsRight programme → FitsBytes programme → version < 2 ^ 8 → table_length programme names ≤ 65535 → AreRising names → AllByRecursion (IsKnown programme.assets) names
     → names_in timescale (message_spelling (PaMessage (record { version = 0; tables = listed_table (mpt_spelling (sent_table programme version names)) ∷ [] }))) ≡ map (λ name. entry_of_mpu (mpu_at programme (place_of_mpu (all_mpus programme) name))) names
 unfolding names_in
 table-names programme timescale version names right fits v short rising known =

@@ -2,7 +2,8 @@
 //! holds of programmes with nothing left open but their files.
 #![tactic(auto)]
 
-ghost use Rattle.mmt_messages.specs.Sent.{MessagesAreRight, PlanOneFits};
+ghost use Rattle.mmt_messages.specs.Found.{MessagesAreFound};
+ghost use Rattle.mmt_messages.specs.Sent.{MessagesAreRight, PlanOneFits, RightProgrammesFitBytes};
 ghost use Rattle.mmt_messages.specs.Headline.{SentIsReceived};
 
 use mmt_cast::programmes_are_delivered;
@@ -12,9 +13,19 @@ pub fn plan_one_fits()
     ensures { PlanOneFits }
 {}
 
+/// What is written of a right programme that has a cast fits its fields.
+pub fn right_programmes_fit_bytes()
+    ensures { RightProgrammesFitBytes }
+{}
+
 /// The messages that are sent of a right programme are such as its cast asks for.
 pub fn messages_are_right()
     ensures { MessagesAreRight }
+{}
+
+/// In the messages that are sent a receiver that was tuned by them finds names alone.
+pub fn messages_are_found()
+    ensures { MessagesAreFound }
 {}
 
 /// Of a right programme whose cast is admitted, and of any near delivery of the cast: what a receiver

@@ -1,0 +1,6 @@
+use Rattle.mmt_headline.proofs.programmes_received.streams_are_quiet.Goals as goal
+use Rattle.mmt_headline.proofs.AllNotes.{streams-quiet}
+use Rattle.mmt_headline.proofs.Notes.{notes-quiet}
+
+pub returns : goal.returns
+returns c = streams-quiet (notes-quiet c.peak_is_within_the_bound.ensures c.only_late_and_repeats.ensures c.names_are_learned.ensures c.messages_are_sent.ensures)

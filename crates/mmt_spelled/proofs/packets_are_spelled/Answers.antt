@@ -1,5 +1,0 @@
-use Rattle.mmt_spelled.proofs.packets_are_spelled.Goals as goal
-use Rattle.mmt_spelled.proofs.Spelled.{packets-spelled}
-
-pub returns : goal.returns
-returns c = packets-spelled
