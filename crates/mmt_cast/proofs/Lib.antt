@@ -27,3 +27,4 @@ pub mod Examples
 pub mod Running
 pub mod Ordering
 pub mod Readable
+pub mod FromRight

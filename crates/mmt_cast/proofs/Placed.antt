@@ -5,7 +5,8 @@ use Rattle.std.proofs.lemmas.Bool.{and_from, and_parts, cases_Bool, eq-eqb, eqb-
 use Rattle.mmt_cast.proofs.Listing.{IsIn, at-map_from_0, each-append, each-at, in-at, in-left, in-right, length-map_from}
 use Rattle.mmt_cast.specs.Casting.{place_of_mpu}
 use Rattle.mmt_cast.specs.Placing.{PlacedMpu, PlacedUnit, all_mpus, all_units, flat_map_from, map_from, mpus_of, units_of}
-use Rattle.mmt_cast.specs.Right.{IsKnown, mpu_at, no_asset, no_mpu, no_placed_mpu, no_placed_unit, unit_at}
+use Rattle.mmt_cast.specs.Right.{mpu_at, no_mpu, no_placed_mpu, no_placed_unit, unit_at}
+use Rattle.mmt_model.specs.Right.{IsKnown, no_asset}
 use Rattle.mmt_model.specs.declared.programmes.Asset.{Asset}
 use Rattle.mmt_model.specs.declared.programmes.Mpu.{Mpu}
 use Rattle.mmt_model.specs.declared.programmes.Programme.{Programme}
@@ -117,7 +118,7 @@ place-in (x ∷ xs) y i = go ((x.asset == y.asset) && (x.mpu == y.mpu)) refl i (
 abbrev pub named_mpu : Programme → ℕ × ℕ → PlacedMpu
 named_mpu programme name = placed_in name.0 (get_or programme.assets name.0 no_asset) name.1 (get_or (get_or programme.assets name.0 no_asset).mpus name.1 no_mpu)
 
-pub known-in : (programme : Programme) (name : ℕ × ℕ) → IsKnown programme name → IsIn (named_mpu programme name) (all_mpus programme)
+pub known-in : (programme : Programme) (name : ℕ × ℕ) → IsKnown programme.assets name → IsIn (named_mpu programme name) (all_mpus programme)
 unfolding all_mpus mpus_of
 known-in programme name known =
     let asset : Asset = get_or programme.assets name.0 no_asset in
@@ -128,7 +129,7 @@ known-in programme name known =
     let z : name.0 ≡ 0 + name.0 = omega arith in
     in-flat_map_from mpus_of 0 programme.assets name.0 no_asset y known.0 (subst (λ a. IsIn y (map_from (placed_in a asset) 0 asset.mpus)) z inside)
 
-pub known-place : (programme : Programme) (name : ℕ × ℕ) → IsKnown programme name → place_of_mpu (all_mpus programme) name < length (all_mpus programme)
+pub known-place : (programme : Programme) (name : ℕ × ℕ) → IsKnown programme.assets name → place_of_mpu (all_mpus programme) name < length (all_mpus programme)
 known-place programme name known = place-in (all_mpus programme) (named_mpu programme name) (known-in programme name known)
 
 -- ---- units

@@ -1,14 +1,15 @@
 -- Names that rise pick the MPUs that pass, in their order.
 use Rattle.std.proofs.Common.{◌≡◌, ℕ, ◌+◌, suc, Bool, true, false, ◌==◌, ◌||◌, ◌⊎◌, inl, inr, cond, List, [], ◌∷◌, ◌++◌, map, get_or, arith, refl, ap, ap₂, sym, ◌∙◌, ⊎_elim, subst, true≢false}
 use Rattle.std.specs.List.{AllByRecursion, filter, list_any}
+use Rattle.std.proofs.lemmas.List.Elements.{recursion_from_All}
 use Rattle.std.proofs.lemmas.Bool.{and_from, and_left, and_parts, and_right, cases_Bool, eq-eqb, eqb-true, ne_eqb}
 use Rattle.mmt_cast.proofs.Listing.{IsIn, each-append, each-in, each-weaker}
 use Rattle.mmt_cast.proofs.Placed.{each-flat_map_from, each-map_from, placed_in}
 use Rattle.mmt_cast.specs.Casting.{place_of_mpu}
 use Rattle.mmt_cast.specs.Placing.{PlacedMpu, all_mpus, flat_map_from, map_from, mpus_of}
-use Rattle.mmt_cast.specs.Right.{no_asset, no_placed_mpu}
+use Rattle.mmt_cast.specs.Right.{no_placed_mpu}
 use Rattle.mmt_cast.specs.Tables.{is_named_by, is_same_pair}
-use Rattle.mmt_cast.specs.TablesRead.{AreRising, IsBefore}
+use Rattle.mmt_model.specs.Right.{AreRising, IsBefore, no_asset}
 use Rattle.mmt_model.specs.declared.programmes.Asset.{Asset}
 use Rattle.mmt_model.specs.declared.programmes.Mpu.{Mpu}
 use Rattle.mmt_model.specs.declared.programmes.Programme.{Programme}
@@ -134,14 +135,14 @@ picked (x ∷ xs) (n ∷ ns) r a k =
     let at : IsBefore (pair x) n → ⊥ = λ b. true≢false (sym t ∙ differ-before (pair x) n b) in
     let e0 : x.asset ≡ n.0 = eqb-true x.asset n.0 p.0 in
     let e1 : x.mpu ≡ n.1 = eqb-true x.mpu n.1 p.1 in
-    let others : AllByRecursion (λ m. is_same_pair (pair x) m ≡ false) ns = each-weaker (IsBefore n) (λ m. is_same_pair (pair x) m ≡ false) ns (λ m b. differ-before (pair x) m (moved (pair x) n m e0 e1 b)) a.0 in
+    let others : AllByRecursion (λ m. is_same_pair (pair x) m ≡ false) ns = each-weaker (IsBefore n) (λ m. is_same_pair (pair x) m ≡ false) ns (λ m b. differ-before (pair x) m (moved (pair x) n m e0 e1 b)) (recursion_from_All (IsBefore n) ns a.0) in
     let apart : AllByRecursion (λ (y : PlacedMpu). is_same_pair (pair y) n ≡ false) xs = each-weaker (λ (y : PlacedMpu). IsBefore (pair x) (pair y)) (λ (y : PlacedMpu). is_same_pair (pair y) n ≡ false) xs (λ y b. differ-after n (pair y) (moved n (pair x) (pair y) (sym e0) (sym e1) b)) r.0 in
     named-head x xs n ns t
     ∙ ap₂ (λ y l. y ∷ l) (sym (pick-head x xs n t)) (skip-name n ns xs apart ∙ (picked xs ns r.1 a.1 (names-later x xs ns others k.1) ∙ sym (picks-tail x xs ns others)))))
     (λ (f : is_same_pair (pair x) n ≡ false).
     (let first : IsNameIn xs n = (names-later x xs (n ∷ []) (f, tt) (k.0, tt)).0 in
     let b : IsBefore (pair x) n = subst (IsBefore (pair x)) first.same (each-in (λ (y : PlacedMpu). IsBefore (pair x) (pair y)) first.mpu xs r.0 first.here) in
-    let none : AllByRecursion (λ m. is_same_pair (pair x) m ≡ false) (n ∷ ns) = (f, each-weaker (IsBefore n) (λ m. is_same_pair (pair x) m ≡ false) ns (λ m c. differ-before (pair x) m (before-through (pair x) n m b c)) a.0) in
+    let none : AllByRecursion (λ m. is_same_pair (pair x) m ≡ false) (n ∷ ns) = (f, each-weaker (IsBefore n) (λ m. is_same_pair (pair x) m ≡ false) ns (λ m c. differ-before (pair x) m (before-through (pair x) n m b c)) (recursion_from_All (IsBefore n) ns a.0)) in
     ap (λ (t : Bool). cond t (x ∷ filter (is_named_by (n ∷ ns)) xs) (filter (is_named_by (n ∷ ns)) xs)) (not-named x (n ∷ ns) none)
     ∙ (picked xs (n ∷ ns) r.1 a (names-later x xs (n ∷ ns) none k) ∙ sym (picks-tail x xs (n ∷ ns) none))))
     (cases_Bool (is_same_pair (pair x) n))

@@ -9,11 +9,12 @@ use Rattle.mmt_cast.proofs.Lengths.{descriptors-long, extended-long, inner-is, s
 use Rattle.mmt_cast.proofs.Listing.{each-append, each-map_numbers, length-map_from}
 use Rattle.mmt_cast.proofs.Tables.{each-block, each-filter, index-each}
 use Rattle.mmt_cast.specs.Placing.{PlacedMpu, all_mpus, map_from, mpus_of}
-use Rattle.mmt_cast.specs.Right.{mpu_at, no_asset, no_placed_mpu}
+use Rattle.mmt_cast.specs.Right.{mpu_at, no_placed_mpu}
 use Rattle.mmt_cast.specs.SentTables.{extended_of_mpu, pair_of, sent_asset, sent_descriptors, sent_table, stamps_of_21}
 use Rattle.mmt_cast.specs.Tables.{asset_length, is_named_by, named_of_asset, table_length}
 use Rattle.mmt_cast.specs.TablesRead.{FitsFields, FitsTable, TablesAreSpelled}
 use Rattle.mmt_model.specs.Carrying.{numbers}
+use Rattle.mmt_model.specs.Right.{no_asset}
 use Rattle.mmt_model.specs.declared.programmes.Asset.{Asset}
 use Rattle.mmt_model.specs.declared.programmes.Programme.{Programme}
 use Rattle.mmt_mpt.proofs.TableLaw.{read_back}

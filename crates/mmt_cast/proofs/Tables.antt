@@ -9,10 +9,11 @@ use Rattle.mmt_cast.proofs.Naming.{names-of-asset}
 use Rattle.mmt_cast.proofs.Placed.{each-map_from, known-in, named_mpu, placed_in}
 use Rattle.mmt_cast.proofs.Rising.{IsNameIn, mpus-rise, pick, picked}
 use Rattle.mmt_cast.specs.Placing.{PlacedMpu, all_mpus, entry_of_mpu, flat_map_from, map_from, mpus_of}
-use Rattle.mmt_cast.specs.Right.{IsKnown, mpu_at, no_asset, no_mpu, no_placed_mpu}
+use Rattle.mmt_cast.specs.Right.{mpu_at, no_mpu, no_placed_mpu}
 use Rattle.mmt_cast.specs.SentTables.{sent_asset, sent_table}
 use Rattle.mmt_cast.specs.Tables.{is_named_by, named_of_asset}
 use Rattle.mmt_cast.specs.TablesRead.{FitsTable, TablesAreRead}
+use Rattle.mmt_model.specs.Right.{IsKnown, no_asset}
 use Rattle.mmt_model.specs.declared.programmes.Asset.{Asset}
 use Rattle.mmt_model.specs.declared.programmes.Mpu.{Mpu}
 use Rattle.mmt_model.specs.declared.programmes.Programme.{Programme}
@@ -91,7 +92,7 @@ assets-names configured at names n (x ∷ xs) h =
     ∙ (sym (map-append (λ m. IsEntry (entry_of_mpu m)) (filter (is_named_by names) (mpus_of n x)) (filter (is_named_by names) (flat_map_from mpus_of (n + 1) xs)))
     ∙ ap (map (λ m. IsEntry (entry_of_mpu m))) (sym (filter-append (is_named_by names) (mpus_of n x) (flat_map_from mpus_of (n + 1) xs))))
 
-names-in : (programme : Programme) (names : List (ℕ × ℕ)) → AllByRecursion (IsKnown programme) names → AllByRecursion (IsNameIn (all_mpus programme)) names
+names-in : (programme : Programme) (names : List (ℕ × ℕ)) → AllByRecursion (IsKnown programme.assets) names → AllByRecursion (IsNameIn (all_mpus programme)) names
 names-in programme [] k = tt
 names-in programme (n ∷ ns) k = (record { mpu = named_mpu programme n; here = known-in programme n k.0; same = refl }, names-in programme ns k.1)
 

@@ -15,11 +15,12 @@ use Rattle.mmt_cast.proofs.Spanning.{places, spanned}
 use Rattle.mmt_cast.specs.Casting.{Span, cast_of, copies_as_sent, place_of_mpu, planned, with_number}
 use Rattle.mmt_frag.specs.Cuts.{part_bytes, parts}
 use Rattle.mmt_cast.specs.Placing.{all_mpus}
-use Rattle.mmt_cast.specs.Right.{IsKnown, IsMessage, IsRight, NamesKnown, contents_of, signal_at}
+use Rattle.mmt_cast.specs.Right.{IsMessage, IsRight, NamesKnown, contents_of, signal_at}
 use Rattle.mmt_cast.specs.Sending.{Sending, carried, id_of, packet_count, packet_of, sendings}
 use Rattle.mmt_cast.specs.Tables.{table_length, table_message_length}
 use Rattle.mmt_model.specs.Carrying.{Contents, IsPacketAt, IsSentCopy, first_of_places, has_table_part, last_of_places, no_table_copy, numbers, place_of, places_of_copy, table_copy}
 use Rattle.mmt_model.specs.Entries.{Entry}
+use Rattle.mmt_model.specs.Right.{IsKnown}
 use Rattle.mmt_model.specs.Survival.{no_packet}
 use Rattle.mmt_model.specs.Units.{joined}
 use Rattle.mmt_model.specs.declared.casts.Cast.{Cast}
@@ -73,7 +74,7 @@ pub length-copies : (programme : Programme) → (cast_of programme).copies ≡ c
 unfolding cast_of
 length-copies programme = refl
 
-pub known-names : (programme : Programme) (names : List (ℕ × ℕ)) → AllByRecursion (IsKnown programme) names → AllByRecursion (λ m. m < length (cast_of programme).mpus) (map (place_of_mpu (all_mpus programme)) names)
+pub known-names : (programme : Programme) (names : List (ℕ × ℕ)) → AllByRecursion (IsKnown programme.assets) names → AllByRecursion (λ m. m < length (cast_of programme).mpus) (map (place_of_mpu (all_mpus programme)) names)
 known-names programme [] k = tt
 known-names programme (n ∷ ns) k = (omega (arith, known-place programme n k.0, length-mpus programme), known-names programme ns k.1)
 

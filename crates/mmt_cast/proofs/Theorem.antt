@@ -14,11 +14,12 @@ use Rattle.mmt_cast.proofs.Tabling.{copy-right}
 use Rattle.mmt_cast.proofs.Units.{unit-right}
 use Rattle.mmt_cast.specs.Casting.{cast_of, copies_as_sent, long_tick, mpu_as_sent, place_of_mpu, with_number}
 use Rattle.mmt_cast.specs.Placing.{PlacedMpu, all_mpus, all_units, entry_of_mpu}
-use Rattle.mmt_cast.specs.Right.{CastIsRight, IsMessage, IsRight, contents_of, mpu_at, no_asset, no_mpu, no_placed_mpu, signal_at}
+use Rattle.mmt_cast.specs.Right.{CastIsRight, IsMessage, IsRight, contents_of, mpu_at, no_mpu, no_placed_mpu, signal_at}
 use Rattle.mmt_cast.specs.Sending.{Sending, carried, packet_of}
 use Rattle.mmt_model.specs.Carrying.{mpu_of, named_from_of, tick_of}
 use Rattle.mmt_model.specs.Survival.{no_packet}
 use Rattle.mmt_model.specs.Entries.{Entry}
+use Rattle.mmt_model.specs.Right.{no_asset}
 use Rattle.mmt_model.specs.declared.casts.Carries.{Carries}
 use Rattle.mmt_model.specs.declared.casts.Sent.{Sent}
 use Rattle.mmt_model.specs.declared.casts.SentMpu.{SentMpu}

@@ -4,10 +4,11 @@ use Rattle.mmt_cast.specs.Casting.{cast_of}
 use Rattle.mmt_cast.specs.Placing.{all_mpus, entry_of_mpu}
 use Rattle.mmt_cast.specs.PlanOne.{plan_one, plan_with, unit_with, usual_signals}
 use Rattle.mmt_cast.specs.Refusing.{refusal}
-use Rattle.mmt_cast.specs.Right.{IsMessage, IsRight, mpu_at, signal_at}
+use Rattle.mmt_cast.specs.Right.{IsMessage, mpu_at, signal_at}
 use Rattle.mmt_cast.specs.TablesRead.{FitsTable}
 use Rattle.mmt_delivery.specs.WorkedPlan.{packet, usual}
 use Rattle.mmt_model.specs.Entries.{Entry}
+use Rattle.mmt_model.specs.Right.{IsRight}
 use Rattle.mmt_model.specs.declared.casts.Sent.{Sent}
 use Rattle.mmt_model.specs.declared.programmes.Programme.{Programme}
 use Rattle.mmt_model.specs.declared.casts.Carries.TheVariants as carries

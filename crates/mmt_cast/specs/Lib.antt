@@ -10,3 +10,4 @@ pub mod Examples
 pub mod Right
 pub mod TablesRead
 pub mod Readable
+pub mod FromRight

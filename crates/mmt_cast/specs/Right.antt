@@ -7,6 +7,7 @@ use Rattle.mmt_cast.specs.Refusing.{refusal}
 use Rattle.mmt_cast.specs.Tables.{parameters_length, table_message_length}
 use Rattle.mmt_model.specs.Carrying.{Contents, IsCastOf}
 use Rattle.mmt_model.specs.Entries.{Entry}
+use Rattle.mmt_model.specs.Right.{IsKnown, no_asset}
 use Rattle.std.specs.List.{AllByRecursion}
 use Rattle.mmt_model.specs.declared.programmes.Asset.{Asset}
 use Rattle.mmt_model.specs.declared.programmes.Mpu.{Mpu}
@@ -15,10 +16,7 @@ use Rattle.mmt_model.specs.declared.programmes.Signal.{Signal}
 use Rattle.mmt_model.specs.declared.keys.UnitKey.TheVariants as keys
 use Rattle.mmt_model.specs.declared.programmes.Signal.TheVariants as signals
 
--- an asset, an MPU, a unit and a signalling message, for places outside a programme
-abbrev pub no_asset : Asset
-no_asset = record { packet_id = 0; id = []; kind = 0; timed = false; timescale = 0; file = 0; mpus = [] }
-
+-- an MPU, a unit and a signalling message, for places outside a programme
 abbrev pub no_mpu : Mpu
 no_mpu = record { number = 0; time = record { 0 = 0 }; decoding_offset = 0; aus = []; units = [] }
 
@@ -57,14 +55,10 @@ contents_of programme files messages =
       message_part = λ s k. part_bytes programme.limit k (messages s);
     }
 
--- an MPU of a programme that a table may name: by the place of its asset and its place there
-abbrev pub IsKnown : Programme → ℕ × ℕ → Type 0
-IsKnown programme name = (name.0 < length programme.assets) × (name.1 < length (get_or programme.assets name.0 no_asset).mpus)
-
 -- a signalling message names MPUs of the programme
 abbrev pub NamesKnown : Programme → Signal → Type 0
 NamesKnown programme (signals.Parameters at) = Unit {0}
-NamesKnown programme (signals.Table at names) = AllByRecursion (IsKnown programme) names
+NamesKnown programme (signals.Table at names) = AllByRecursion (IsKnown programme.assets) names
 
 -- of what makes a programme right, what its cast hangs on
 pub record IsRight (programme : Programme) : Type 0 where

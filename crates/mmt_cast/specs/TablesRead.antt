@@ -1,11 +1,12 @@
 -- What a receiver reads in the tables that are sent: the entries of the MPUs that are named.
-use Rattle.std.specs.Prelude.{ℕ, ◌≡◌, ◌^◌, ◌<◌, ◌≤◌, ◌⊎◌, List, [], ◌∷◌, map, length, All, IsSome, Ok}
+use Rattle.std.specs.Prelude.{ℕ, ◌≡◌, ◌^◌, ◌<◌, ◌≤◌, List, [], ◌∷◌, map, length, All, IsSome, Ok}
 use Rattle.std.specs.List.{AllByRecursion}
 use Rattle.mmt_cast.specs.Casting.{place_of_mpu}
 use Rattle.mmt_cast.specs.Placing.{PlacedMpu, all_mpus, entry_of_mpu}
-use Rattle.mmt_cast.specs.Right.{IsKnown, IsRight, mpu_at}
+use Rattle.mmt_cast.specs.Right.{IsRight, mpu_at}
 use Rattle.mmt_cast.specs.SentTables.{sent_table}
 use Rattle.mmt_cast.specs.Tables.{table_length}
+use Rattle.mmt_model.specs.Right.{AreRising, IsKnown}
 use Rattle.mmt_model.specs.declared.programmes.Asset.{Asset}
 use Rattle.mmt_model.specs.declared.programmes.Au.{Au}
 use Rattle.mmt_model.specs.declared.programmes.Programme.{Programme}
@@ -25,20 +26,11 @@ pub record FitsTable (m : PlacedMpu) : Type 0 where
   pub aus : All (λ (a : Au). (a.dts_pts < 2 ^ 16) × (a.pts < 2 ^ 16)) m.value.aus
   pub times : IsSome (all_in_range (unit_times m.value.time.0 m.value.decoding_offset m.in_asset.timescale 0 0 (map au_value m.value.aus)))
 
--- one pair of places stands before another in the order of the plan
-abbrev pub IsBefore : ℕ × ℕ → ℕ × ℕ → Type 0
-IsBefore p q = (p.0 < q.0) ⊎ ((p.0 ≡ q.0) × (p.1 < q.1))
-
--- names rise strictly
-abbrev pub AreRising : List (ℕ × ℕ) → Type 0
-AreRising [] = Unit {0}
-AreRising (n ∷ ns) = AllByRecursion (IsBefore n) ns × AreRising ns
-
 -- a receiver reads in a table that is sent exactly the entries of the MPUs that it names, in their order, whatever its own timescale
 abbrev pub TablesAreRead : Type 0
 TablesAreRead =
     (programme : Programme) → IsRight programme → ((m : ℕ) → m < length (all_mpus programme) → FitsTable (mpu_at programme m))
-    → (configured version : ℕ) (names : List (ℕ × ℕ)) → AreRising names → AllByRecursion (IsKnown programme) names
+    → (configured version : ℕ) (names : List (ℕ × ℕ)) → AreRising names → AllByRecursion (IsKnown programme.assets) names
     → names_of configured (sent_table programme version names) ≡ map (λ name. IsEntry (entry_of_mpu (mpu_at programme (place_of_mpu (all_mpus programme) name)))) names
 
 -- what a table has of a programme fits its fields

@@ -3,6 +3,7 @@
 #![tactic(auto)]
 
 ghost use Rattle.mmt_cast.specs.Examples.{AreExamples};
+ghost use Rattle.mmt_cast.specs.FromRight.{RightProgrammesFit};
 ghost use Rattle.mmt_cast.specs.PlanOne.{ComputesPlanOne, AreRefusedPlans};
 ghost use Rattle.mmt_cast.specs.Readable.{CastsAreReadable};
 ghost use Rattle.mmt_cast.specs.Right.{CastIsRight};
@@ -25,6 +26,11 @@ pub fn refused_plans_compute()
 /// programme.
 pub fn examples_compute()
     ensures { AreExamples }
+{}
+
+/// A right programme has all that the laws below ask of a programme, in the ranges that they ask for.
+pub fn right_programmes_fit()
+    ensures { RightProgrammesFit }
 {}
 
 /// The cast of a right programme goes with what it is to carry.

@@ -1,25 +1,14 @@
--- The worked plan meets what is asked of a programme.
-use Rattle.std.proofs.Common.{ℕ, ◌<◌, ◌^◌, zero, suc, length, arith}
-use Rattle.std.proofs.lemmas.List.Elements.{All-from_recursion}
+-- What is written of a right programme fits its fields, and the worked plan is such a programme.
+use Rattle.std.proofs.Common.{◌≡◌, None}
 use Rattle.mmt_cast.proofs.Examples.{examples}
+use Rattle.mmt_cast.proofs.FromRight.{right-programmes-fit}
 use Rattle.mmt_cast.specs.PlanOne.{plan_one}
-use Rattle.mmt_cast.specs.Right.{signal_at}
-use Rattle.mmt_messages.specs.Sent.{NamesRise, PlanOneFits}
-use Rattle.mmt_model.specs.declared.programmes.Asset.{Asset}
+use Rattle.mmt_messages.specs.Sent.{PlanOneFits, RightProgrammesFitBytes}
 
-rise : (s : ℕ) → s < length plan_one.signals → NamesRise (signal_at plan_one s)
-unfolding signal_at
-rise zero l = tt
-rise (suc zero) l = (tt, tt)
-rise (suc (suc s)) l = absurd (omega arith)
+pub right-bytes : RightProgrammesFitBytes
+right-bytes programme right none =
+    let fields = right-programmes-fit.fields programme right none in
+    record { package_id = fields.package_id; assets = fields.assets; each = fields.each; mpus = fields.mpus; bound = right.params.bound; rise = right-programmes-fit.rise programme right }
 
 pub plan_one_fits : PlanOneFits
-plan_one_fits =
-    record {
-      package_id = omega arith;
-      assets = omega arith;
-      each = All-from_recursion (λ (a : Asset). (length a.id < 2 ^ 8) × (a.kind < 2 ^ 32) × (a.packet_id < 2 ^ 16)) plan_one.assets ((omega arith, omega arith, omega arith), tt);
-      mpus = examples.fit;
-      bound = omega arith;
-      rise = rise;
-    }
+plan_one_fits = right-bytes plan_one examples.right examples.has_cast

@@ -11,16 +11,17 @@ use Rattle.mmt_cast.proofs.Tables.{tables-read}
 use Rattle.mmt_cast.specs.Casting.{place_of_mpu}
 use Rattle.mmt_cast.specs.Placing.{all_mpus, entry_of_mpu}
 use Rattle.mmt_cast.specs.Refusing.{refusal}
-use Rattle.mmt_cast.specs.Right.{IsKnown, IsMessage, IsRight, NamesKnown, mpu_at, signal_at}
+use Rattle.mmt_cast.specs.Right.{IsMessage, IsRight, NamesKnown, mpu_at, signal_at}
 use Rattle.mmt_cast.specs.SentTables.{sent_table}
 use Rattle.mmt_cast.specs.Tables.{table_length, table_message_length}
-use Rattle.mmt_cast.specs.TablesRead.{AreRising, FitsFields}
+use Rattle.mmt_cast.specs.TablesRead.{FitsFields}
 use Rattle.mmt_fields.proofs.Numbers.{length_big_endian}
 use Rattle.mmt_fields.specs.Reading.{big_endian}
 use Rattle.mmt_messages.specs.Sent.{FitsBytes, MessagesAreRight, NamesRise}
 use Rattle.mmt_sent.specs.Messages.{message_bytes, message_of_signal, tables_before}
 use Rattle.mmt_model.specs.Admission.{Fault, fault_of_params, or_else, unless}
 use Rattle.mmt_model.specs.Entries.{Entry}
+use Rattle.mmt_model.specs.Right.{AreRising, IsKnown}
 use Rattle.mmt_model.specs.declared.programmes.Params.{Params}
 use Rattle.mmt_model.specs.declared.programmes.Programme.{Programme}
 use Rattle.mmt_model.specs.declared.programmes.Signal.{Signal}
@@ -155,7 +156,7 @@ message-long : (programme : Programme) (version : ℕ) (names : List (ℕ × ℕ
 unfolding table_message_length
 message-long programme version names = omega (arith, pa-long (mpt_spelling (sent_table programme version names)), (tables-spelled programme version names).0)
 
-table-names : (programme : Programme) (timescale version : ℕ) (names : List (ℕ × ℕ)) → IsRight programme → FitsBytes programme → version < 2 ^ 8 → table_length programme names ≤ 65535 → AreRising names → AllByRecursion (IsKnown programme) names
+table-names : (programme : Programme) (timescale version : ℕ) (names : List (ℕ × ℕ)) → IsRight programme → FitsBytes programme → version < 2 ^ 8 → table_length programme names ≤ 65535 → AreRising names → AllByRecursion (IsKnown programme.assets) names
     → names_in timescale (message_spelling (PaMessage (record { version = 0; tables = listed_table (mpt_spelling (sent_table programme version names)) ∷ [] }))) ≡ map (λ name. entry_of_mpu (mpu_at programme (place_of_mpu (all_mpus programme) name))) names
 unfolding names_in
 table-names programme timescale version names right fits v short rising known =

@@ -2,7 +2,7 @@
 //! holds of programmes with nothing left open but their files.
 #![tactic(auto)]
 
-ghost use Rattle.mmt_messages.specs.Sent.{MessagesAreRight, PlanOneFits};
+ghost use Rattle.mmt_messages.specs.Sent.{MessagesAreRight, PlanOneFits, RightProgrammesFitBytes};
 ghost use Rattle.mmt_messages.specs.Headline.{SentIsReceived};
 
 use mmt_cast::programmes_are_delivered;
@@ -10,6 +10,11 @@ use mmt_cast::programmes_are_delivered;
 /// The worked plan meets what is asked of a programme whose messages are sent.
 pub fn plan_one_fits()
     ensures { PlanOneFits }
+{}
+
+/// What is written of a right programme that has a cast fits its fields.
+pub fn right_programmes_fit_bytes()
+    ensures { RightProgrammesFitBytes }
 {}
 
 /// The messages that are sent of a right programme are such as its cast asks for.

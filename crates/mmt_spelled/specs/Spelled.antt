@@ -5,6 +5,7 @@ use Rattle.mmt_cast.specs.Placing.{PlacedUnit, all_units}
 use Rattle.mmt_cast.specs.Right.{IsRight, contents_of, signal_at, unit_at, unit_bytes}
 use Rattle.mmt_cast.specs.Tables.{parameters_length, table_message_length}
 use Rattle.mmt_model.specs.Carrying.{payload_carried}
+use Rattle.mmt_model.specs.Right.{IsRight as IsRightProgramme}
 use Rattle.mmt_model.specs.Survival.{no_packet}
 use Rattle.mmt_model.specs.declared.programmes.Programme.{Programme}
 use Rattle.mmt_model.specs.declared.programmes.Signal.{Signal}
@@ -22,6 +23,10 @@ HasLength programme (signals.Table at names) bytes = length bytes ≡ table_mess
 pub record FitsPayload (x : PlacedUnit) : Type 0 where
   pub head : HeadFits x.in_mpu.in_asset.timed (record { key = x.value.key; priority = x.value.priority; dependency = x.value.dependency })
   pub mpu : x.in_mpu.value.number < 2 ^ 32
+
+-- the units of a right programme fit payloads
+abbrev pub RightUnitsFit : Type 0
+RightUnitsFit = (programme : Programme) → IsRightProgramme programme → (u : ℕ) → u < length (all_units programme) → FitsPayload (unit_at programme u)
 
 -- the payload of each packet is read as what the packet carries, and has the packet's length, where the files hold all units
 abbrev pub PacketsAreSpelled : Type 0
