@@ -27,8 +27,8 @@ module _ (m : Meaning) (going : (packets : List Packet) → (m.so_far packets).n
   quiet limit (end.Broken kind.Cut place) events unread (packets, tail, shown, front, some, at, over, none, within) = ap (λ o. o.noted) shown.output ∙ ended packets
   quiet limit end.TooLong events unread (packets, tail, seen, byte, read, full, framed, front, output, out) = ap (λ o. o.noted) output ∙ going packets
   quiet limit end.ReadFault events unread (packets, tail, shown, front, within) = ap (λ o. o.noted) shown.output ∙ going packets
-  quiet limit end.WriteFault events unread (begun, within) = begun_quiet events begun
-  quiet limit end.OutOfMemory events unread (begun, within) = begun_quiet events begun
+  quiet limit end.WriteFault events unread (begun, over, within) = begun_quiet events begun
+  quiet limit end.OutOfMemory events unread (begun, over, within) = begun_quiet events begun
 
   pub notes_nothing : (limit : ℕ) (outcome : StreamEnd) (old new : List Event) (left unread : List ℕ) (reads reads' writes writes' : ℕ) → Does m limit outcome old new left unread reads reads' writes writes'
       → (events : List Event) → new ≡ old ++ events → bytes_noted events ≡ []

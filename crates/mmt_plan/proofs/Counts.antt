@@ -23,7 +23,8 @@ use Rattle.mmt_plan.specs.Mpus.{most_aus, mpu_keys, mpu_of, mpu_at, unit_in}
 use Rattle.mmt_plan.specs.Names.{place_of, with_name}
 use Rattle.mmt_plan.specs.Nodes.{nodes, item_nodes, member_nodes}
 use Rattle.mmt_plan.specs.Reading.{◌>>=◌, each, each_with, IsAnswer}
-use Rattle.mmt_plan.specs.Right.{IsFew, units_of_asset, units_in_all}
+use Rattle.mmt_model.specs.Right.{units_of_asset}
+use Rattle.mmt_plan.specs.Alone.{IsFew}
 use Rattle.mmt_plan.specs.Signals.{signal_at}
 use Rattle.mmt_plan.specs.Tops.{top_keys, sending_at, params_at, assets_at, programme_at, programme_of, top_spot}
 use Rattle.mmt_plan.specs.declared.ends.PlanEnd.{PlanEnd}
@@ -31,6 +32,10 @@ use Rattle.mmt_plan.specs.declared.ends.Refusal.{Refusal}
 use Rattle.mmt_plan.specs.declared.spots.Spot.{Spot}
 use Rattle.mmt_plan.specs.declared.tops.SendingValues.{SendingValues}
 use Rattle.mmt_plan.proofs.Gives.{Gives, Has, after, skip, there, answered}
+
+-- how many units the assets have in all
+abbrev units_in_all : List Asset → ℕ
+units_in_all assets = sum_by units_of_asset assets
 
 some_node : (d : Data) → 1 ≤ nodes d
 some_node null = omega arith

@@ -9,6 +9,7 @@ use Rattle.std.specs.Char.{digit_value}
 use Rattle.std.specs.Fmt.{digit_glyph}
 use Rattle.std.specs.Str.{bytes_eq}
 use Rattle.std.specs.Str.Parse.{digits_value}
+use Rattle.mmt_model.specs.Right.{IsRightFlow}
 use Rattle.mmt_model.specs.declared.programmes.Flow.{Flow}
 use Rattle.mmt_command.specs.Flows.{hex_text, flow_text, HasFlowRange}
 use Rattle.mmt_command.proofs.FlowTexts.{hex_last, hex_none, front_of, port_of}
@@ -59,6 +60,6 @@ reads text (Some f) some range none =
 reads text None some range none =
     no_flow (is_in_range (flow_from text)) (bytes_eq text (flow_text (flow_from text))) (flow_from text) (λ b c. none (flow_from text) (range_of (flow_from text) b) ((bytes_eq-Decides text (flow_text (flow_from text))).0 c))
 
-pub ranges : (r : Option Flow) → IfSome r (λ f. HasFlowRange f) → IfSome r (λ f. is_in_range f ≡ true)
+pub ranges : (r : Option Flow) → IfSome r (λ f. HasFlowRange f) → IfSome r IsRightFlow
 ranges None h = tt
-ranges (Some f) h = in_range f h
+ranges (Some f) h = record { address = h.address; port_some = omega (arith, h.port_low); port = omega (arith, h.port_high); no_ntp = h.not_ntp }

@@ -9,6 +9,8 @@ pub mod Fronts
 pub mod Outcomes
 pub mod PlanP1
 pub mod RightFiles
+pub mod Rising
+pub mod Agreeing
 pub mod FourCharacters
 pub mod Nodes
 pub mod Gives

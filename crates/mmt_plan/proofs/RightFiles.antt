@@ -3,19 +3,21 @@ use Rattle.std.proofs.Common.{◌≡◌, ℕ, suc, ◌+◌, ◌<◌, ◌≤◌, 
 use Rattle.std.proofs.lemmas.List.Sums.{get_or-le-sum_by, sum_by-cons}
 use Rattle.std.proofs.lemmas.List.Elements.{All-push, All-weaker}
 use Rattle.std.specs.List.{All, sum_by}
+use Rattle.mmt_model.specs.Right.{IsRight, IsRightAsset, IsRightMpu, units_of_asset}
 use Rattle.mmt_model.specs.declared.programmes.Asset.{Asset}
 use Rattle.mmt_model.specs.declared.programmes.Mpu.{Mpu}
 use Rattle.mmt_model.specs.declared.programmes.Programme.{Programme}
-use Rattle.mmt_plan.specs.Right.{IsUnitOfFile, IsMpuOfFile, IsRightMpu, IsRightAsset, IsRightAlone, IsFew, IsRight, units_of_asset}
+use Rattle.mmt_plan.specs.Alone.{IsAlone, IsAssetAlone, IsFew}
+use Rattle.mmt_plan.specs.Files.{IsUnitOfFile, IsMpuOfFile}
 
 unit_of_file : (start : ℕ) (timed : Bool) (m : Mpu) → IsRightMpu start timed m → All IsUnitOfFile m.units
 unit_of_file start timed m right = λ k d lt. let u = right.units k d lt in record { from = u.from; some = u.some }
 
 -- the MPUs of an asset have their places in its file
-pub mpus_of_file : (start files : ℕ) (a : Asset) → IsRightAsset start files a → units_of_asset a < 2 ^ 32 → All IsMpuOfFile a.mpus
-mpus_of_file start files a right few = λ k d lt. record {
+mpus_of_file : (start : ℕ) (a : Asset) → All (IsRightMpu start a.timed) a.mpus → units_of_asset a < 2 ^ 32 → All IsMpuOfFile a.mpus
+mpus_of_file start a right few = λ k d lt. record {
   few = let le = get_or-le-sum_by (λ (m : Mpu). length m.units) a.mpus k d lt in omega arith;
-  units = unit_of_file start a.timed (get_or a.mpus k d) (right.mpus k d lt);
+  units = unit_of_file start a.timed (get_or a.mpus k d) (right k d lt);
 }
 
 count : (ms : List Mpu) → All (λ m. 1 ≤ length m.units) ms → length ms ≤ sum_by (λ m. length m.units) ms
@@ -27,8 +29,8 @@ count (m ∷ ms) some =
     omega arith
 
 -- an asset has no more MPUs than units
-pub few_mpus : (start files : ℕ) (a : Asset) → IsRightAsset start files a → units_of_asset a < 2 ^ 32 → length a.mpus < 2 ^ 32
-few_mpus start files a right few = let le = count a.mpus (λ k d lt. (right.mpus k d lt).some) in omega arith
+few_mpus : (start : ℕ) (a : Asset) → All (IsRightMpu start a.timed) a.mpus → units_of_asset a < 2 ^ 32 → length a.mpus < 2 ^ 32
+few_mpus start a right few = let le = count a.mpus (λ k d lt. (right k d lt).some) in omega arith
 
 -- an asset of a right programme: its file is one of the programme, and it has few MPUs with their places in the file
 pub record IsAssetOfFile (files : ℕ) (a : Asset) : Type 0 where
@@ -36,34 +38,40 @@ pub record IsAssetOfFile (files : ℕ) (a : Asset) : Type 0 where
   pub few : length a.mpus < 2 ^ 32
   pub mpus : All IsMpuOfFile a.mpus
 
-few_units : (p : Programme) → IsFew p → (k : ℕ) (d : Asset) → k < length p.assets → units_of_asset (get_or p.assets k d) < 2 ^ 32
-few_units p few k d lt = let le = get_or-le-sum_by units_of_asset p.assets k d lt in let all = few.units in omega arith
+few_units : (assets : List Asset) → sum_by units_of_asset assets < 2 ^ 32 → (k : ℕ) (d : Asset) → k < length assets → units_of_asset (get_or assets k d) < 2 ^ 32
+few_units assets few k d lt = let le = get_or-le-sum_by units_of_asset assets k d lt in omega arith
 
 -- each asset of a programme has few MPUs
-pub all_few : (p : Programme) → IsRightAlone p → IsFew p → All (λ (a : Asset). length a.mpus < 2 ^ 32) p.assets
-all_few p alone few = λ k d lt. few_mpus alone.start (length p.files) (get_or p.assets k d) (alone.assets k d lt) (few_units p few k d lt)
+pub all_few : (p : Programme) → IsAlone p → IsFew p → All (λ (a : Asset). length a.mpus < 2 ^ 32) p.assets
+all_few p alone few = λ k d lt. few_mpus alone.start (get_or p.assets k d) (alone.assets k d lt).mpus (few_units p.assets few.units k d lt)
 
 at_place : (p : Programme) → IsRight p → (k : ℕ) (d : Asset) → k < length p.assets → IsAssetOfFile (length p.files) (get_or p.assets k d)
 at_place p right k d lt =
-    let a = right.alone.assets k d lt in
-    let few : units_of_asset (get_or p.assets k d) < 2 ^ 32 = few_units p right.few k d lt in
-    record { file = a.file; few = few_mpus right.alone.start (length p.files) (get_or p.assets k d) a few; mpus = mpus_of_file right.alone.start (length p.files) (get_or p.assets k d) a few }
+    let a = right.assets k d lt in
+    let few : units_of_asset (get_or p.assets k d) < 2 ^ 32 = few_units p.assets right.few_units k d lt in
+    record { file = a.file; few = few_mpus right.start (get_or p.assets k d) a.mpus few; mpus = mpus_of_file right.start (get_or p.assets k d) a.mpus few }
 
 pub asset_of_file : (p : Programme) (k : ℕ) (a : Asset) → IsRight p → k < length p.assets → a ≡ get_or p.assets k a → IsAssetOfFile (length p.files) a
 asset_of_file p k a right lt is = subst (λ x. IsAssetOfFile (length p.files) x) (sym is) (at_place p right k a lt)
 
-more_files : (start n m : ℕ) (a : Asset) → n ≤ m → IsRightAsset start n a → IsRightAsset start m a
-more_files start n m a le right = record {
-  packet_id = right.packet_id;
+within : (start n m : ℕ) (a : Asset) → n ≤ m → IsRightAsset start n a → IsRightAsset start m a
+within start n m a le right = record {
   id_some = right.id_some;
   id = right.id;
+  packet_id_some = right.packet_id_some;
+  packet_id = right.packet_id;
   kind = right.kind;
+  timescale_some = right.timescale_some;
   timescale = right.timescale;
   file = let f = right.file in omega arith;
   some = right.some;
   mpus = right.mpus;
+  numbers = right.numbers;
 }
 
+more_files : (start n m : ℕ) (a : Asset) → n ≤ m → IsAssetAlone start n a → IsAssetAlone start m a
+more_files start n m a le alone = record { mpus = alone.mpus; right = λ numbers. within start n m a le (alone.right numbers) }
+
 -- with one more asset, and as many files or more
-pub more_right : (start n m : ℕ) (assets : List Asset) (a : Asset) → n ≤ m → All (IsRightAsset start n) assets → IsRightAsset start m a → All (IsRightAsset start m) (assets ++ a ∷ [])
-more_right start n m assets a le all right = All-push (IsRightAsset start m) assets a (All-weaker (IsRightAsset start n) (IsRightAsset start m) (λ x h. more_files start n m x le h) assets all) right
+pub more_right : (start n m : ℕ) (assets : List Asset) (a : Asset) → n ≤ m → All (IsAssetAlone start n) assets → IsAssetAlone start m a → All (IsAssetAlone start m) (assets ++ a ∷ [])
+more_right start n m assets a le all right = All-push (IsAssetAlone start m) assets a (All-weaker (IsAssetAlone start n) (IsAssetAlone start m) (λ x h. more_files start n m x le h) assets all) right

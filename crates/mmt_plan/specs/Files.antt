@@ -1,5 +1,5 @@
 -- The files of a programme (this project's rules).
-use Rattle.std.specs.Prelude.{◌≡◌, ℕ, ◌+◌, ◌≤◌, Bool, false, nat_le, List, [], length, get_or, Option, Some, None, Result, Ok, Err, if◌then◌else◌}
+use Rattle.std.specs.Prelude.{◌≡◌, ℕ, ◌+◌, ◌<◌, ◌≤◌, ◌^◌, Bool, false, nat_le, List, [], length, get_or, Option, Some, None, Result, Ok, Err, if◌then◌else◌}
 use Rattle.std.specs.List.{All}
 use Rattle.mmt_model.specs.declared.programmes.Asset.{Asset}
 use Rattle.mmt_model.specs.declared.programmes.Mpu.{Mpu}
@@ -15,6 +15,16 @@ use Rattle.mmt_plan.specs.declared.ends.PlanPart.TheVariants as parts
 use Rattle.mmt_plan.specs.declared.ends.Reason.TheVariants.{FileAbsent, UnitShort}
 use Rattle.mmt_plan.specs.declared.ends.Refusal.{Refusal}
 use Rattle.mmt_plan.specs.declared.spots.Spot.{Spot}
+
+-- a unit has a byte, and its bytes stand where a file can have them
+pub record IsUnitOfFile (u : model.Unit) : Type 0 where
+  pub from : u.from ≤ 2 ^ 40
+  pub some : 1 ≤ u.length
+
+-- an MPU's units are such, and few enough to be counted in 32 bits
+pub record IsMpuOfFile (m : Mpu) : Type 0 where
+  pub few : length m.units < 2 ^ 32
+  pub units : All IsUnitOfFile m.units
 
 -- a file that may be there has so many bytes
 abbrev pub has_bytes : Option (List ℕ) → ℕ → Bool

@@ -13,5 +13,5 @@ pub mod Tops
 pub mod Twice
 pub mod Wholes
 pub mod Plan
-pub mod Right
+pub mod Alone
 pub mod Files

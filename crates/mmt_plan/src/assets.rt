@@ -6,7 +6,8 @@ ghost use Rattle.mmt_plan.specs.Assets.{is_printed, kind_at, kind_in, asset_of, 
 ghost use Rattle.mmt_plan.specs.Nodes.{nodes, item_nodes};
 ghost use Rattle.mmt_plan.specs.Names.{with_name};
 ghost use Rattle.std.specs.List.{All};
-ghost use Rattle.mmt_plan.specs.Right.{IsFileName, IsRightAsset, is_kind};
+ghost use Rattle.mmt_model.specs.Right.{IsFileName, IsKind};
+ghost use Rattle.mmt_plan.specs.Alone.{IsAssetAlone};
 ghost use Rattle.mmt_plan.specs.Reading.{IsAnswer, ok_map, each_with};
 
 use crate::ends::{PlanEnd, PlanPart, Reason, Refusal};
@@ -40,7 +41,7 @@ fn is_printed(byte: u8) -> bool
 #[tactic(auto, using(crate::proofs::FourCharacters::four))]
 fn kind_in(text: &str) -> Option<u32>
     ensures value { result ≡ kind_in text.now }
-    ensures range { IfSome result (λ k. is_kind k ≡ true) }
+    ensures range { IfSome result IsKind }
 {
     let bytes = text.as_bytes();
     if bytes.len() != 4 {
@@ -58,7 +59,7 @@ fn kind_in(text: &str) -> Option<u32>
 #[tactic(auto, unfolding(crate::specs::Assets::kind_at))]
 fn kind(value: &Value, spot: Spot) -> Result<u32, Refusal>
     ensures value { result ≡ kind_at spot (view value.now) }
-    ensures range { IfOk result (λ k. is_kind k ≡ true) }
+    ensures range { IfOk result IsKind }
 {
     match member(value, spot, 3, "type")?.as_str() {
         Some(text) => match kind_in(text) {
@@ -78,7 +79,7 @@ fn asset(alloc: Global, value: &Value, spot: Spot, files: &mut FileNames) -> Res
     ensures value { IsAnswer (asset_of spot files.old (view value.now)) (ok_map (λ x. (x, files.new)) result) }
     ensures grows { OnOk result (length files.new ≤ length files.old + 1) }
     ensures kept { OnOk result (length files.old ≤ length files.new) }
-    ensures right { IfOk result (IsRightAsset spot.start (length files.new)) }
+    ensures right { IfOk result (IsAssetAlone spot.start (length files.new)) }
     ensures named { OnOk result (All IsFileName files.old → All IsFileName files.new) }
 {
     object(value, spot)?;
@@ -127,7 +128,7 @@ pub fn assets(
     requires room { length files.old + length values.now.items < 2 ^ 32 }
     ensures value { IsAnswer (each_with (asset_at spot) files.old 0 (items_view values.now.items))
         (ok_map (λ list. (list, files.new)) result) }
-    ensures right { IfOk result (λ list. All (IsRightAsset spot.start (length files.new)) list) }
+    ensures right { IfOk result (λ list. All (IsAssetAlone spot.start (length files.new)) list) }
     ensures count { IfOk result (λ list. length list ≡ length values.now.items) }
     ensures named { OnOk result (All IsFileName files.old → All IsFileName files.new) }
 {

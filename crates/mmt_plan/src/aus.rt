@@ -2,6 +2,7 @@
 
 ghost use Rattle.std.specs.Prelude.{◌≡◌, ◌≤◌, IfSome};
 ghost use Rattle.serde_json.specs.View.{view};
+ghost use Rattle.mmt_model.specs.Right.{IsRightAu};
 ghost use Rattle.mmt_plan.specs.Aus.{au_at, as_pair_in};
 ghost use Rattle.mmt_plan.specs.Members.{as_number_in};
 
@@ -41,7 +42,7 @@ pub fn pair_up_to(value: &Value, most: u64) -> Option<(u64, u64)>
 impl Part for Au {
     ghost item_at = { au_at };
 
-    ghost is_right = { λ _ _. Unit {0} };
+    ghost is_right = { λ _. IsRightAu };
 
     #[tactic(auto, unfolding(crate::specs::Aus::au_at))]
     fn read(_alloc: Global, value: &Value, spot: Spot, number: u32) -> Result<Au, PlanEnd> {

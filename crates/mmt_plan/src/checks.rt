@@ -3,9 +3,9 @@
 ghost use Rattle.std.specs.Prelude.{◌≡◌, ◌≤◌, ◌<◌, ◌^◌, ℕ, Bool, length, is_some, IsErrOf, IsTrue, IfOk, IfErr};
 ghost use Rattle.std.specs.List.{All};
 ghost use Rattle.mmt_io.specs.Port.{Rose};
-ghost use Rattle.mmt_plan.specs.Files.{EndsBy, MpuEndsBy, has_bytes, check_unit, check_mpu, check_asset_at, files_of, IsFilesAnswer};
+ghost use Rattle.mmt_plan.specs.Files.{IsMpuOfFile, IsUnitOfFile, EndsBy, MpuEndsBy, has_bytes, check_unit, check_mpu, check_asset_at, files_of, IsFilesAnswer};
+ghost use Rattle.mmt_model.specs.Right.{IsRight};
 ghost use Rattle.mmt_plan.specs.Plan.{Stays};
-ghost use Rattle.mmt_plan.specs.Right.{IsRight, IsMpuOfFile, IsUnitOfFile};
 ghost use Rattle.mmt_plan.specs.Wholes.{each_checked};
 
 use crate::ends::{FilesEnd, PlanPart, Reason, Refusal};

@@ -1,7 +1,7 @@
 //! Plan P1, plans that differ from it, and what is said of them.
 
 ghost use Rattle.std.specs.Prelude.{IfOk};
-ghost use Rattle.mmt_plan.specs.Right.{IsRight};
+ghost use Rattle.mmt_model.specs.Right.{IsRight};
 
 use crate::{PlanEnd, check_files, read_plan};
 use mmt_io::MemoryShelf;
@@ -56,7 +56,7 @@ pub fn programme_of(alloc: Global, text: &str) -> Result<Programme, Fail>
 // What is printed for the bytes of a plan.
 pub fn told(alloc: Global, plan: &[u8]) -> Result<String, Fail> {
     let text = match read(alloc, plan)? {
-        Ok(_) => format!(in alloc; "a programme")?,
+        Ok(_) => format!(in alloc; "mmt: plan: right")?,
         Err(end) => format!(in alloc; "mmt: {end}")?,
     };
     Ok(text)
@@ -69,19 +69,28 @@ pub fn replaced(alloc: Global, text: &str, from: &str, to: &str) -> Result<Strin
     Ok(text)
 }
 
-// P1 with each of these texts in it in place of another, one after the other.
-pub fn changed(alloc: Global, changes: &[(&str, &str)]) -> Result<String, Fail> {
-    let mut text = String::from_str(alloc, P1)?;
-    for (from, to) in changes {
-        text = replaced(alloc, text.as_str(), *from, *to)?;
+// A text with changes in it, one after the other: each is `FROM => TO`, and ` && ` stands between them.
+pub fn changed(alloc: Global, text: &str, changes: &str) -> Result<String, Fail> {
+    let mut text = String::from_str(alloc, text)?;
+    for change in changes.split(" && ") {
+        let (from, to) = change.split_once(" => ").ok_or("no change")?;
+        text = replaced(alloc, text.as_str(), from, to)?;
     }
     Ok(text)
 }
 
-// What is printed for P1 with one text in it in place of another.
-pub fn wrong(alloc: Global, from: &str, to: &str) -> Result<String, Fail> {
-    let text = replaced(alloc, P1, from, to)?;
-    told(alloc, text.as_bytes())
+// The first row of a table that is wrong, with what is told, or no text. A row is `CHANGES @ TOLD`: what
+// is told of a text with these changes.
+pub fn wrong_row(alloc: Global, text: &str, rows: &str) -> Result<String, Fail> {
+    for row in rows.lines() {
+        let (changes, want) = row.split_once(" @ ").ok_or("no row")?;
+        let plan = changed(alloc, text, changes)?;
+        let got = told(alloc, plan.as_bytes())?;
+        if got.as_str().strip_prefix("mmt: plan: ") != Some(want) {
+            return Ok(format!(in alloc; "{row}, and not {got}")?);
+        }
+    }
+    Ok(String::new(alloc))
 }
 
 // What is printed for the files of a plan, on a shelf with this file where these reads fail.

@@ -2,7 +2,8 @@
 
 ghost use Rattle.std.specs.Prelude.{◌≡◌, true, IfOk, IfSome};
 ghost use Rattle.serde_json.specs.View.{view};
-ghost use Rattle.mmt_plan.specs.Flows.{flow_at, flow_in, is_in_range};
+ghost use Rattle.mmt_model.specs.Right.{IsRightFlow};
+ghost use Rattle.mmt_plan.specs.Flows.{flow_at, flow_in};
 
 use crate::ends::{Reason, Refusal};
 use crate::members::member;
@@ -13,7 +14,7 @@ use serde_json::Value;
 // The flow that a text is, in the form of the command line.
 fn flow_in(text: &str) -> Option<Flow>
     ensures value { result ≡ flow_in text.now }
-    ensures range { IfSome result (λ f. is_in_range f ≡ true) }
+    ensures range { IfSome result IsRightFlow }
 {
     mmt_command::flow_of(text)
 }
@@ -22,7 +23,7 @@ fn flow_in(text: &str) -> Option<Flow>
 #[tactic(auto, unfolding(crate::specs::Flows::flow_at))]
 pub fn flow(object: &Value, spot: Spot, field: u32, name: &str) -> Result<Flow, Refusal>
     ensures value { result ≡ flow_at spot field name.now (view object.now) }
-    ensures range { IfOk result (λ f. is_in_range f ≡ true) }
+    ensures range { IfOk result IsRightFlow }
 {
     match member(object, spot, field, name)?.as_str() {
         Some(text) => match flow_in(text) {

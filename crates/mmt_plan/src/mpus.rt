@@ -3,7 +3,7 @@
 ghost use Rattle.std.specs.Prelude.{◌≡◌, ◌<◌, ◌≤◌, ◌^◌, ℕ, IfOk};
 ghost use Rattle.serde_json.specs.View.{view};
 ghost use Rattle.mmt_plan.specs.Nodes.{nodes};
-ghost use Rattle.mmt_plan.specs.Right.{FitsAus, IsRightMpu, IsRightUnit};
+ghost use Rattle.mmt_model.specs.Right.{FitsAus, IsRightMpu, IsRightUnit};
 ghost use Rattle.mmt_plan.specs.Reading.{IsAnswer};
 ghost use Rattle.mmt_plan.specs.Mpus.{mpu_of, mpu_at, unit_in, most_aus};
 

@@ -5,7 +5,7 @@ ghost use Rattle.serde_json.specs.View.{view};
 ghost use Rattle.mmt_io.specs.Port.{Rose};
 ghost use Rattle.mmt_plan.specs.Plan.{json_of, programme_in, plan, IsReadOf, Stays};
 ghost use Rattle.mmt_plan.specs.Nodes.{nodes};
-ghost use Rattle.mmt_plan.specs.Right.{IsRight};
+ghost use Rattle.mmt_model.specs.Right.{IsRight};
 ghost use Rattle.mmt_plan.specs.Reading.{IsAnswer, ok_map};
 
 use crate::ends::{PlanEnd, Reason};

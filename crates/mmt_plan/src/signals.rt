@@ -3,7 +3,8 @@
 ghost use Rattle.std.specs.Prelude.{◌≡◌, ◌<◌, ◌≤◌, ◌^◌, None, IfOk, true};
 ghost use Rattle.serde_json.specs.View.{view};
 ghost use Rattle.mmt_plan.specs.Nodes.{nodes};
-ghost use Rattle.mmt_plan.specs.Right.{IsFrom, IsRightSignal};
+ghost use Rattle.mmt_model.specs.Right.{AreRising, IsFrom};
+ghost use Rattle.mmt_plan.specs.Alone.{IsSignalAlone};
 ghost use Rattle.mmt_plan.specs.Reading.{IsAnswer};
 ghost use Rattle.mmt_plan.specs.Signals.{pair_at, is_table_at, names_at, parameters_of, table_of, is_above, rises_after, signal_of, signal_at};
 
@@ -64,12 +65,12 @@ fn is_above(pair: (u32, u32), last: Option<(u32, u32)>) -> bool
 }
 
 // The MPUs that a table names.
-#[tactic(auto, unfolding(crate::specs::Signals::names_at))]
+#[tactic(auto, using(crate::proofs::Rising::rising), unfolding(crate::specs::Signals::names_at))]
 fn names(alloc: Global, value: &Value, spot: Spot) -> Result<List<(u32, u32)>, PlanEnd>
     requires start { spot.start ≤ 2 ^ 47 }
     requires small { nodes (view value.now) < 2 ^ 32 }
     ensures value { IsAnswer (names_at spot (view value.now)) result }
-    ensures right { IfOk result (λ names. rises_after None names ≡ true) }
+    ensures right { IfOk result AreRising }
 {
     let names = list_from(alloc, value, spot, 3, "names", 0)?;
     if is_rising(names.as_slice()) {
@@ -95,7 +96,7 @@ fn is_table(value: &Value, spot: Spot) -> Result<bool, Refusal>
 #[tactic(auto, unfolding(crate::specs::Signals::parameters_of))]
 fn parameters(value: &Value, spot: Spot, at: LongTick) -> Result<Signal, Refusal>
     ensures value { result ≡ parameters_of at spot (view value.now) }
-    ensures right { IfOk result (λ s. IsFrom spot.start at → IsRightSignal spot.start s) }
+    ensures right { IfOk result (λ s. IsFrom spot.start at → IsSignalAlone spot.start s) }
 {
     no_other(value, spot, &["at", "kind"])?;
     Ok(Signal::Parameters { at })
@@ -107,7 +108,7 @@ fn table(alloc: Global, value: &Value, spot: Spot, at: LongTick) -> Result<Signa
     requires start { spot.start ≤ 2 ^ 47 }
     requires small { nodes (view value.now) < 2 ^ 32 }
     ensures value { IsAnswer (table_of at spot (view value.now)) result }
-    ensures right { IfOk result (λ s. IsFrom spot.start at → IsRightSignal spot.start s) }
+    ensures right { IfOk result (λ s. IsFrom spot.start at → IsSignalAlone spot.start s) }
 {
     let names = names(alloc, value, spot)?;
     no_other(value, spot, &["at", "kind", "names"])?;
@@ -120,7 +121,7 @@ fn signal(alloc: Global, value: &Value, spot: Spot) -> Result<Signal, PlanEnd>
     requires start { spot.start ≤ 2 ^ 47 }
     requires small { nodes (view value.now) < 2 ^ 32 }
     ensures value { IsAnswer (signal_of spot (view value.now)) result }
-    ensures right { IfOk result (IsRightSignal spot.start) }
+    ensures right { IfOk result (IsSignalAlone spot.start) }
 {
     object(value, spot)?;
     let at = number(value, spot, 1, "at", 0, LAST_TICK)?;
@@ -136,7 +137,7 @@ fn signal(alloc: Global, value: &Value, spot: Spot) -> Result<Signal, PlanEnd>
 impl Part for Signal {
     ghost item_at = { signal_at };
 
-    ghost is_right = { λ s. IsRightSignal s.start };
+    ghost is_right = { λ s. IsSignalAlone s.start };
 
     fn read(alloc: Global, value: &Value, spot: Spot, number: u32) -> Result<Signal, PlanEnd> {
         signal(alloc, value, spot.inner(PlanPart::Signal, number))

@@ -1,111 +1,69 @@
 //! The worked plans, and texts of all kinds.
 
-use crate::desk::{P1, changed, programme_of, read, told, wrong};
+use crate::desk::{ITEMS, P1, changed, programme_of, read, replaced, told, wrong_row};
 use mmt_base::{LongTick, Ntp};
-use mmt_model::{Au, Params, Signal, Unit, UnitKey};
+use mmt_model::{Programme, Signal, Unit, UnitKey};
+use std::alloc::Global;
 use std::test::Fail;
+
+// The tick of a signalling message of a programme.
+fn tick_of(programme: &Programme, place: usize) -> Option<LongTick> {
+    match programme.signals.get(place)? {
+        Signal::Parameters { at } => Some(*at),
+        Signal::Table { at, .. } => Some(*at),
+    }
+}
+
+// The number and the time of an MPU of the first asset of a programme, and its last unit.
+fn mpu_of(programme: &Programme, place: usize) -> Option<(u32, Ntp, Unit)> {
+    let mpu = programme.assets.get(0)?.mpus.get(place)?;
+    let unit = mpu.units.as_slice().last()?;
+    Some((mpu.number, mpu.time, *unit))
+}
 
 #[test]
 fn p1_is_a_programme(rt: HostRuntime) -> Result<(), Fail> {
     let programme = programme_of(rt.alloc(), P1)?;
+    let unit = Unit {
+        at: LongTick(65_536_300),
+        from: 3000,
+        length: 500,
+        key: UnitKey::Timed {
+            movie_fragment: 1,
+            sample: 2,
+            offset: 0,
+        },
+        priority: 0,
+        dependency: 0,
+    };
+    assert_eq!(rt;
+        mpu_of(&programme, 0),
+        Some((7, Ntp(4_297_114_779_648), unit))
+    );
+    assert_eq!(rt; tick_of(&programme, 1), Some(LongTick(65_536_100)));
     assert_eq!(rt;
         programme.source.address,
         0x2001_0db8_0000_0000_0000_0000_0000_0001
     );
-    assert_eq!(rt; programme.source.port, 51300);
-    assert_eq!(rt;
-        programme.flow.address,
-        0xff0e_0000_0000_0000_0000_0000_0000_0101
-    );
-    assert_eq!(rt; (programme.context, programme.full_every), (1, 3));
-    assert_eq!(rt; (programme.limit, programme.spacing), (1400, 10));
-    assert_eq!(rt; programme.package.as_slice(), b"p1".as_slice());
-    assert_eq!(rt;
-        programme.params,
-        Params {
-            bound: 4000,
-            window: 65536,
-            delay: 1000
-        }
-    );
-    assert_eq!(rt; programme.signals.len(), 2);
-    assert_eq!(rt; programme.assets.len(), 1);
-    assert_eq!(rt; programme.files.len(), 1);
     Ok(())
 }
 
-#[test]
-fn p1_has_two_units_and_a_table(rt: HostRuntime) -> Result<(), Fail> {
-    let programme = programme_of(rt.alloc(), P1)?;
-    let Some(Signal::Table { at, names }) = programme.signals.get(1) else {
-        return Err("no table")?;
-    };
-    assert_eq!(rt;
-        (*at, names.get(0).copied()),
-        (LongTick(65_536_100), Some((0, 0)))
-    );
-    let asset = programme.assets.get(0).ok_or("no asset")?;
-    assert_eq!(rt;
-        (asset.packet_id, asset.kind, asset.timed),
-        (256, 0x6865_7631, true)
-    );
-    assert_eq!(rt; (asset.timescale, asset.file), (60000, 0));
-    let mpu = asset.mpus.get(0).ok_or("no MPU")?;
-    assert_eq!(rt; (mpu.number, mpu.time), (7, Ntp(4_297_114_779_648)));
-    assert_eq!(rt; mpu.decoding_offset, 1001);
-    assert_eq!(rt;
-        mpu.aus.get(1).copied(),
-        Some(Au {
-            dts_pts: 2002,
-            pts: 0
-        })
-    );
-    assert_eq!(rt;
-        mpu.units.get(1).copied(),
-        Some(Unit {
-            at: LongTick(65_536_300),
-            from: 3000,
-            length: 500,
-            key: UnitKey::Timed {
-                movie_fragment: 1,
-                sample: 2,
-                offset: 0
-            },
-            priority: 0,
-            dependency: 0,
-        })
-    );
-    Ok(())
-}
+// What P2 has instead of P1's values and units.
+const P2: &str = r#""limit":1400 => "limit":60000
+ && "bound":4000 => "bound":20000000
+ && ,[2002,0] =>  && "length":3000 => "length":16777216
+ && ,{"at":300,"from":3000,"length":500,"movie_fragment":1,"sample":2,"offset":0,"priority":0,"dependency":0} => "#;
 
 #[test]
 fn p2_has_one_unit_of_16_mib(rt: HostRuntime) -> Result<(), Fail> {
-    let second =
-        ",{\"at\":300,\"from\":3000,\"length\":500,\"movie_fragment\":1,\"sample\":2,\"offset\":0,\"priority\":0,\"dependency\":0}";
-    let text = changed(
-        rt.alloc(),
-        &[
-            ("\"limit\":1400", "\"limit\":60000"),
-            ("\"bound\":4000", "\"bound\":20000000"),
-            (",[2002,0]", ""),
-            ("\"length\":3000", "\"length\":16777216"),
-            (second, ""),
-        ],
-    )?;
+    let text = changed(rt.alloc(), P1, P2)?;
     let programme = programme_of(rt.alloc(), text.as_str())?;
     assert_eq!(rt;
         (programme.limit, programme.params.bound),
         (60000, 20_000_000)
     );
-    let mpu = programme
-        .assets
-        .get(0)
-        .ok_or("no asset")?
-        .mpus
-        .get(0)
-        .ok_or("no MPU")?;
-    assert_eq!(rt; (mpu.aus.len(), mpu.units.len()), (1, 1));
-    assert_eq!(rt; mpu.units.get(0).map(|unit| unit.length), Some(16_777_216));
+    let (_, _, unit) = mpu_of(&programme, 0).ok_or("no MPU")?;
+    assert_eq!(rt; (unit.from, unit.length), (0, 16_777_216));
     Ok(())
 }
 
@@ -113,87 +71,67 @@ fn p2_has_one_unit_of_16_mib(rt: HostRuntime) -> Result<(), Fail> {
 fn p3_has_a_second_table(rt: HostRuntime) -> Result<(), Fail> {
     let text = changed(
         rt.alloc(),
-        &[(
-            "[[0,0]]}",
-            "[[0,0]]},{\"at\":32800,\"kind\":\"table\",\"names\":[[0,0]]}",
-        )],
+        P1,
+        r#"[[0,0]]} => [[0,0]]},{"at":32800,"kind":"table","names":[[0,0]]}"#,
     )?;
     let programme = programme_of(rt.alloc(), text.as_str())?;
-    assert_eq!(rt; programme.signals.len(), 3);
-    match programme.signals.get(2) {
-        Some(Signal::Table { at, .. }) => assert_eq!(rt; *at, LongTick(65_568_800)),
-        _ => return Err("no table")?,
-    }
+    assert_eq!(rt; tick_of(&programme, 2), Some(LongTick(65_568_800)));
     Ok(())
 }
 
+// What P4 has instead of the end of P1's table and of P1's MPU.
+const P4: &str = r#"[[0,0]]} => [[0,0]]},
+{"at":536870912,"kind":"parameters"},{"at":1073741824,"kind":"parameters"},
+{"at":1610612736,"kind":"parameters"},{"at":2147483648,"kind":"parameters"},
+{"at":2684354560,"kind":"parameters"},{"at":3221225472,"kind":"parameters"},
+{"at":3758096384,"kind":"parameters"},{"at":4294967296,"kind":"parameters"},
+{"at":4294967396,"kind":"table","names":[[0,1]]}
+ && }]}]}]} => }]},
+{"number":8,"time":285772091490304,"decoding_offset":1001,"aus":[[1001,1001]],"units":[
+{"at":4294967496,"from":0,"length":500,"movie_fragment":2,"sample":1,"offset":0,"priority":0,"dependency":0}
+]}]}]}"#;
+
 #[test]
 fn p4_is_more_than_2_to_32_ticks_long(rt: HostRuntime) -> Result<(), Fail> {
-    let mut signals = String::from_str(rt.alloc(), "[[0,0]]}")?;
-    for k in 1..=8u64 {
-        let at = k * 536_870_912;
-        let one = format!(in rt.alloc(); ",{{\"at\":{at},\"kind\":\"parameters\"}}")?;
-        signals.push_str(one.as_str())?;
-    }
-    signals.push_str(",{\"at\":4294967396,\"kind\":\"table\",\"names\":[[0,1]]}")?;
-    let mpu =
-        "\"sample\":2,\"offset\":0,\"priority\":0,\"dependency\":0}]},{\"number\":8,\"time\":285772091490304,\"decoding_offset\":1001,\"aus\":[[1001,1001]],\"units\":[{\"at\":4294967496,\"from\":0,\"length\":500,\"movie_fragment\":2,\"sample\":1,\"offset\":0,\"priority\":0,\"dependency\":0}]}";
-    let text = changed(
-        rt.alloc(),
-        &[
-            ("[[0,0]]}", signals.as_str()),
-            (
-                "\"sample\":2,\"offset\":0,\"priority\":0,\"dependency\":0}]}",
-                mpu,
-            ),
-        ],
-    )?;
+    let text = changed(rt.alloc(), P1, P4)?;
     let programme = programme_of(rt.alloc(), text.as_str())?;
     assert_eq!(rt; programme.signals.len(), 11);
-    match programme.signals.get(9) {
-        Some(Signal::Parameters { at }) => assert_eq!(rt; *at, LongTick(4_360_503_296)),
-        _ => return Err("no buffer message")?,
-    }
-    let mpu = programme
-        .assets
-        .get(0)
-        .ok_or("no asset")?
-        .mpus
-        .get(1)
-        .ok_or("no MPU")?;
-    assert_eq!(rt; (mpu.number, mpu.time), (8, Ntp(285_772_091_490_304)));
-    assert_eq!(rt;
-        mpu.units.get(0).map(|unit| unit.at),
-        Some(LongTick(4_360_503_496))
-    );
+    assert_eq!(rt; tick_of(&programme, 9), Some(LongTick(4_360_503_296)));
+    let (number, time, unit) = mpu_of(&programme, 1).ok_or("no MPU")?;
+    assert_eq!(rt; (number, time), (8, Ntp(285_772_091_490_304)));
+    assert_eq!(rt; unit.at, LongTick(4_360_503_496));
     Ok(())
+}
+
+// The names of a programme's files and the numbers of its assets' files, with a space after each.
+fn files_in(alloc: Global, programme: &Programme) -> Result<String, Fail> {
+    let mut text = String::new(alloc);
+    for file in programme.files.as_slice() {
+        text.push_str(file.as_str())?;
+        text.push_str(" ")?;
+    }
+    for asset in programme.assets.as_slice() {
+        text.push_str(format!(in alloc; "{} ", asset.file)?.as_str())?;
+    }
+    Ok(text)
 }
 
 #[test]
 fn files_are_numbered_as_they_are_first_seen(rt: HostRuntime) -> Result<(), Fail> {
-    let mut text = String::from_str(rt.alloc(), "\"assets\":[")?;
+    let alloc = rt.alloc();
+    let mut changes = String::from_str(alloc, r#"[[0,0]] => [[5,0]] && "assets":[ => "assets":["#)?;
     for (id, file) in [(1, "b"), (2, "a"), (3, "b"), (4, "v.bin"), (5, "a")] {
-        let asset = format!(in rt.alloc();
-            "{{\"packet_id\":{id},\"id\":\"w\",\"type\":\"aapp\",\"timed\":false,\"timescale\":1,\"file\":\"{file}\",\"mpus\":[{}]}},",
-            crate::desk::ITEMS
+        let asset = format!(in alloc;
+            "{{\"packet_id\":{id},\"id\":\"w\",\"type\":\"aapp\",\"timed\":false,\"timescale\":1,\"file\":\"{file}\",\"mpus\":[{ITEMS}]}},"
         )?;
-        text.push_str(asset.as_str())?;
+        changes.push_str(asset.as_str())?;
     }
-    let text = changed(
-        rt.alloc(),
-        &[("[[0,0]]", "[[5,0]]"), ("\"assets\":[", text.as_str())],
-    )?;
-    let programme = programme_of(rt.alloc(), text.as_str())?;
-    let mut numbers = [9; 6];
-    for (number, asset) in numbers.iter_mut().zip(programme.assets.as_slice()) {
-        *number = asset.file;
-    }
-    assert_eq!(rt; &numbers, &[0, 1, 0, 2, 1, 2]);
-    let files = programme.files.as_slice();
-    assert_eq!(rt; files.len(), 3);
-    assert_eq!(rt; files.get(0).map(|name| name.as_str()), Some("b"));
-    assert_eq!(rt; files.get(1).map(|name| name.as_str()), Some("a"));
-    assert_eq!(rt; files.get(2).map(|name| name.as_str()), Some("v.bin"));
+    let text = changed(alloc, P1, changes.as_str())?;
+    let programme = programme_of(alloc, text.as_str())?;
+    assert_eq!(rt;
+        files_in(alloc, &programme)?.as_str(),
+        "b a v.bin 0 1 0 2 1 2 "
+    );
     Ok(())
 }
 
@@ -201,73 +139,56 @@ fn files_are_numbered_as_they_are_first_seen(rt: HostRuntime) -> Result<(), Fail
 fn a_name_has_escapes_and_characters_of_many_bytes(rt: HostRuntime) -> Result<(), Fail> {
     let text = changed(
         rt.alloc(),
-        &[
-            ("\"v.bin\"", "\"\\u0076\\n\\/\\\"é日\\ud83d\\ude00\""),
-            ("\"p1\"", "\"é\""),
-        ],
+        P1,
+        r#""v.bin" => "\u0076\n\/\"é日\ud83d\ude00" && "p1" => "é""#,
     )?;
     let programme = programme_of(rt.alloc(), text.as_str())?;
     assert_eq!(rt; programme.package.as_slice(), [0xc3, 0xa9].as_slice());
-    assert_eq!(rt;
-        programme.files.get(0).map(|name| name.as_str()),
-        Some("v\n/\"é日\u{1f600}")
-    );
+    let name = programme.files.get(0).map(|name| name.as_str());
+    assert_eq!(rt; name, Some("v\n/\"é日\u{1f600}"));
     Ok(())
 }
 
 #[test]
 fn the_last_of_two_equal_members_counts(rt: HostRuntime) -> Result<(), Fail> {
-    let text = changed(
-        rt.alloc(),
-        &[("\"limit\":1400", "\"limit\":\"x\",\"l\\u0069mit\":64")],
-    )?;
-    assert_eq!(rt; programme_of(rt.alloc(), text.as_str())?.limit, 64);
-    assert_eq!(rt;
-        wrong(rt.alloc(), "\"limit\":1400", "\"limit\":1400,\"limit\":63")?.as_str(),
-        "mmt: plan: value at top 0 0 0 field 5"
-    );
+    let rows = r#""limit":1400 => "limit":"x","l\u0069mit":64 @ right
+"limit":1400 => "limit":1400,"limit":63 @ value at top 0 0 0 field 5"#;
+    assert_eq!(rt; wrong_row(rt.alloc(), P1, rows)?.as_str(), "");
     Ok(())
 }
 
+// P1's members moved in their objects, with white space.
+const MOVED: &str = r#"{"at":0,"kind":"parameters"} =>  {
+"kind" : "parameters" , "at":0}
+ && "packet_id":256, =>  && "number":7, =>  && "at":200,"from":0, => "from":0,
+ && "dependency":0} => "dependency":0,"at":200}
+ && }]}]}]} => }],"number":7}],"packet_id":256}]}
+ && {"flow":"ff0e0000000000000000000000000101:51300", => {
+ && "assets" => "flow":"ff0e0000000000000000000000000101:51300","assets""#;
+
 #[test]
 fn members_stand_in_any_order(rt: HostRuntime) -> Result<(), Fail> {
-    let text = changed(
-        rt.alloc(),
-        &[
-            (
-                "{\"at\":0,\"kind\":\"parameters\"}",
-                " {\n\"kind\"\t: \"parameters\" , \"at\":0}\r\n",
-            ),
-            ("\"packet_id\":256,", ""),
-            ("\"number\":7,", ""),
-            ("\"at\":200,\"from\":0,", "\"from\":0,"),
-            ("\"dependency\":0}", "\"dependency\":0,\"at\":200}"),
-            ("}]}]}]}", "}],\"number\":7}],\"packet_id\":256}]}"),
-            ("{\"flow\":\"ff0e0000000000000000000000000101:51300\",", "{"),
-            (
-                "\"assets\"",
-                "\"flow\":\"ff0e0000000000000000000000000101:51300\",\"assets\"",
-            ),
-        ],
-    )?;
-    let programme = programme_of(rt.alloc(), text.as_str())?;
-    let same = programme_of(rt.alloc(), P1)?;
-    assert_eq!(rt;
-        format!(in rt.alloc(); "{programme:?}")?.as_str(),
-        format!(in rt.alloc(); "{same:?}")?.as_str()
+    let alloc = rt.alloc();
+    let text = changed(alloc, P1, MOVED)?;
+    let text = replaced(alloc, text.as_str(), "\"kind\" :", "\"kind\"\t:\r\n")?;
+    let moved = programme_of(alloc, text.as_str())?;
+    let same = programme_of(alloc, P1)?;
+    let (moved, same) = (
+        format!(in alloc; "{moved:?}")?,
+        format!(in alloc; "{same:?}")?,
     );
+    assert_eq!(rt; moved.as_str(), same.as_str());
     Ok(())
 }
+
+// What is told of a text that is no JSON.
+const NO_JSON: &str = "mmt: plan: not-json at top 0 0 0 field 0";
 
 #[test]
 fn each_prefix_of_a_plan_is_no_json(rt: HostRuntime) -> Result<(), Fail> {
     for end in 0..P1.len() {
         let plan = &P1.as_bytes()[..end];
-        assert_eq!(rt;
-            told(rt.alloc(), plan)?.as_str(),
-            "mmt: plan: not-json at top 0 0 0 field 0",
-            "{end} bytes"
-        );
+        assert_eq!(rt; told(rt.alloc(), plan)?.as_str(), NO_JSON, "{end} bytes");
     }
     assert!(rt; read(rt.alloc(), P1.as_bytes())?.is_ok());
     Ok(())
@@ -275,48 +196,42 @@ fn each_prefix_of_a_plan_is_no_json(rt: HostRuntime) -> Result<(), Fail> {
 
 #[test]
 fn texts_that_are_no_json_are_told(rt: HostRuntime) -> Result<(), Fail> {
-    let texts: [&[u8]; 9] = [
-        b"",
-        b" ",
-        b"{}{}",
-        b"{'flow':1}",
-        b"{\"flow\":01}",
-        b"{\"flow\":1e999}",
-        b"{\"flow\":1,}",
-        b"{\"\xff\":1}",
-        b"nul",
-    ];
-    for text in texts {
+    let texts = "\n \n{}{}\n{'flow':1}\n{\"flow\":01}\n{\"flow\":1e999}\n{\"flow\":1,}\nnul";
+    for text in texts.lines() {
         assert_eq!(rt;
-            told(rt.alloc(), text)?.as_str(),
-            "mmt: plan: not-json at top 0 0 0 field 0"
+            told(rt.alloc(), text.as_bytes())?.as_str(),
+            NO_JSON,
+            "{text}"
         );
     }
+    assert_eq!(rt; told(rt.alloc(), b"{\"\xff\":1}")?.as_str(), NO_JSON);
     Ok(())
 }
 
 // P1 with a member that nests so many arrays, in an object that is one level itself.
-fn nested(rt: &HostRuntime, levels: usize) -> Result<String, Fail> {
-    let open = String::from_utf8(vec![in rt.alloc(); b'['; levels]?)
+fn nested(alloc: Global, levels: usize) -> Result<String, Fail> {
+    let open = String::from_utf8(vec![in alloc; b'['; levels]?)
         .ok()
         .ok_or("no text")?;
-    let close = String::from_utf8(vec![in rt.alloc(); b']'; levels]?)
+    let close = String::from_utf8(vec![in alloc; b']'; levels]?)
         .ok()
         .ok_or("no text")?;
-    let text = format!(in rt.alloc(); "{{\"deep\":{open}{close},\"flow\"")?;
-    changed(rt.alloc(), &[("{\"flow\"", text.as_str())])
+    let change = format!(in alloc; "{{\"flow\" => {{\"deep\":{open}{close},\"flow\"")?;
+    changed(alloc, P1, change.as_str())
 }
 
 #[test]
 fn arrays_and_objects_nest_127_levels(rt: HostRuntime) -> Result<(), Fail> {
-    assert_eq!(rt;
-        told(rt.alloc(), nested(&rt, 126)?.as_bytes())?.as_str(),
-        "mmt: plan: unknown-key at top 0 0 0 field 0"
-    );
-    for levels in [127, 100_000] {
+    for (levels, want) in [
+        (126, "mmt: plan: unknown-key at top 0 0 0 field 0"),
+        (127, NO_JSON),
+        (100_000, NO_JSON),
+    ] {
+        let text = nested(rt.alloc(), levels)?;
         assert_eq!(rt;
-            told(rt.alloc(), nested(&rt, levels)?.as_bytes())?.as_str(),
-            "mmt: plan: not-json at top 0 0 0 field 0"
+            told(rt.alloc(), text.as_bytes())?.as_str(),
+            want,
+            "{levels} levels"
         );
     }
     Ok(())

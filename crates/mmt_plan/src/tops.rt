@@ -4,7 +4,8 @@ ghost use Rattle.std.specs.Prelude.{◌≡◌, ◌<◌, ◌≤◌, ◌^◌, [], 
 ghost use Rattle.serde_json.specs.View.{view};
 ghost use Rattle.std.specs.List.{All};
 ghost use Rattle.mmt_plan.specs.Nodes.{nodes};
-ghost use Rattle.mmt_plan.specs.Right.{IsFew, IsFileName, IsRightAsset, IsRightAlone, IsRightSending};
+ghost use Rattle.mmt_model.specs.Right.{IsFileName, IsRightParams};
+ghost use Rattle.mmt_plan.specs.Alone.{IsAlone, IsAssetAlone, IsFew, IsRightSending};
 ghost use Rattle.mmt_plan.specs.Reading.{IsAnswer, ok_map};
 ghost use Rattle.mmt_plan.specs.Tops.{sending_at, params_at, assets_at, top_spot, programme_at, programme_of};
 
@@ -73,7 +74,8 @@ fn sending(value: &Value, spot: Spot) -> Result<SendingValues, Refusal>
 // The values of the buffer message.
 #[tactic(auto, unfolding(crate::specs::Tops::params_at))]
 fn params(value: &Value, spot: Spot) -> Result<Params, Refusal>
-    ensures { result ≡ params_at spot (view value.now) }
+    ensures value { result ≡ params_at spot (view value.now) }
+    ensures right { IfOk result IsRightParams }
 {
     let bound = number(value, spot, 8, "bound", 0, 0xFFFF_FFFF)?;
     let window = number(value, spot, 9, "window", 0, 0xFFFF_FFFF)?;
@@ -97,7 +99,7 @@ fn assets_in(
     requires small { nodes (view value.now) < 2 ^ 32 }
     requires new { files.old ≡ [] }
     ensures value { IsAnswer (assets_at spot (view value.now)) (ok_map (λ list. (list, files.new)) result) }
-    ensures right { IfOk result (λ list. All (IsRightAsset spot.start (length files.new)) list) }
+    ensures right { IfOk result (λ list. All (IsAssetAlone spot.start (length files.new)) list) }
     ensures count { IfOk result (λ list. (1 ≤ length list) × (length list ≤ 255)) }
     ensures named { OnOk result (All IsFileName files.new) }
 {
@@ -110,7 +112,7 @@ fn assets_in(
 fn programme_at(alloc: Global, value: &Value, top: Spot) -> Result<Programme, PlanEnd>
     requires { nodes (view value.now) < 2 ^ 32 }
     ensures value { IsAnswer (programme_at top (view value.now)) result }
-    ensures right { IfOk result IsRightAlone }
+    ensures right { IfOk result IsAlone }
 {
     object(value, top)?;
     let sending = sending(value, top)?;
@@ -161,7 +163,7 @@ fn programme_at(alloc: Global, value: &Value, top: Spot) -> Result<Programme, Pl
 pub fn programme(alloc: Global, value: &Value) -> Result<Programme, PlanEnd>
     requires { nodes (view value.now) < 2 ^ 32 }
     ensures value { IsAnswer (programme_of (view value.now)) result }
-    ensures right { IfOk result IsRightAlone }
+    ensures right { IfOk result IsAlone }
     ensures few { IfOk result IsFew }
 {
     programme_at(alloc, value, top_spot())

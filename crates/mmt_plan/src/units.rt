@@ -2,7 +2,7 @@
 
 ghost use Rattle.std.specs.Prelude.{◌≡◌, ◌≤◌, ◌^◌, true, false, IfOk};
 ghost use Rattle.serde_json.specs.View.{view};
-ghost use Rattle.mmt_plan.specs.Right.{HasKeyOf, IsRightUnit};
+ghost use Rattle.mmt_model.specs.Right.{HasKeyOf, IsRightUnit};
 ghost use Rattle.mmt_plan.specs.Units.{timed_at, item_at, header_at, unit_at};
 
 use crate::ends::Refusal;

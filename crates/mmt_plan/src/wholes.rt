@@ -4,7 +4,8 @@ ghost use Rattle.std.specs.Prelude.{◌≡◌, ◌<◌, ◌^◌, ℕ, List, Resu
 ghost use Rattle.std.specs.List.{All, list_all};
 ghost use Rattle.mmt_model.specs.declared.programmes.Asset.{Asset as Track};
 ghost use Rattle.mmt_plan.specs.Reading.{IsAnswer};
-ghost use Rattle.mmt_plan.specs.Right.{IsFew, IsRight, IsRightAlone};
+ghost use Rattle.mmt_model.specs.Right.{IsRight};
+ghost use Rattle.mmt_plan.specs.Alone.{IsAlone, IsFew};
 ghost use Rattle.mmt_plan.specs.Wholes.{are_ids_once, are_numbers_once, is_named, are_named, each_checked, agreeing};
 ghost use Rattle.mmt_plan.specs.declared.ends.Refusal.{Refusal as Why};
 
@@ -120,7 +121,7 @@ fn check_each<T: Checked>(alloc: Global, items: &[T], assets: &[Asset]) -> Resul
 /// The programme, where its objects are what they ask of each other.
 #[tactic(auto, unfolding(crate::specs::Wholes::agreeing))]
 pub fn agreeing(alloc: Global, programme: Programme) -> Result<Programme, PlanEnd>
-    requires right { IsRightAlone programme }
+    requires alone { IsAlone programme }
     requires few { IsFew programme }
     ensures value { IsAnswer (agreeing programme) result }
     ensures right { IfOk result IsRight }

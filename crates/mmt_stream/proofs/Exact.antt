@@ -50,8 +50,8 @@ too_long m limit (end.Broken kind.Sync place) events unread (packets, tail, show
 too_long m limit (end.Broken kind.Cut place) events unread (packets, tail, shown, front, some, at, over, none, within) long = absurd (omega arith)
 too_long m limit end.TooLong events unread ends long = refl
 too_long m limit end.ReadFault events unread (packets, tail, shown, front, within) long = absurd (omega arith)
-too_long m limit end.WriteFault events unread (begun, within) long = absurd (omega arith)
-too_long m limit end.OutOfMemory events unread (begun, within) long = absurd (omega arith)
+too_long m limit end.WriteFault events unread (begun, over, within) long = absurd (omega arith)
+too_long m limit end.OutOfMemory events unread (begun, over, within) long = absurd (omega arith)
 
 few : (m : Meaning) (limit : ℕ) (outcome : StreamEnd) (events : List Event) (unread : List ℕ) → Ends m limit outcome events unread → length (bytes_read events) ≤ limit + 1
 few m limit end.Done events unread (packets, shown, over, none, within) = omega arith
@@ -60,8 +60,8 @@ few m limit (end.Broken kind.Cut place) events unread (packets, tail, shown, fro
 few m limit end.TooLong events unread (packets, tail, seen, byte, read, full, framed, front, output, going) =
     omega (arith, ap length read, length-append seen (byte ∷ []), full)
 few m limit end.ReadFault events unread (packets, tail, shown, front, within) = omega arith
-few m limit end.WriteFault events unread (begun, within) = omega arith
-few m limit end.OutOfMemory events unread (begun, within) = omega arith
+few m limit end.WriteFault events unread (begun, over, within) = omega arith
+few m limit end.OutOfMemory events unread (begun, over, within) = omega arith
 
 tells_cut : (m : Meaning) (limit : ℕ) (outcome : StreamEnd) (events : List Event) (unread : List ℕ) (packets : List Packet) (tail : List ℕ) → Ends m limit outcome events unread
     → Framed (bytes_read events) packets tail → IsFront tail → tail ≢ [] → HasEnded events → (outcome ≡ end.Broken kind.Cut (length (joined packets))) ⊎ IsInterrupted outcome

@@ -69,7 +69,7 @@ pub nothing_yet : (m : Meaning) (limit : ℕ) (start : List Event) (left : List 
 nothing_yet m limit start left grows = record {
   events = [];
   passed = record { history = sym (append-nil start); taken = refl; prompt = at_no_read _; once = once_going [] nothing_ended };
-  ends = (begun m [] [] [] grows refl (framed [] (λ i. omega arith)) (start_of_both nothing nothing (m.so_far []) (sym grows.none)), omega arith);
+  ends = (begun m [] [] [] grows refl (framed [] (λ i. omega arith)) (start_of_both nothing nothing (m.so_far []) (sym grows.none)), λ ended. absurd (nothing_ended ended), omega arith);
 }
 
 module _ {C : Type 0} (m : Meaning) (stands : C → List Packet → Type 0) (limit : ℕ) (start : List Event) (left : List ℕ) where
@@ -114,16 +114,16 @@ module _ {C : Type 0} (m : Meaning) (stands : C → List Packet → Type 0) (lim
 
   -- a run that a consumer halted
   halts : (now next : List Event) (unread after : List ℕ) (events more : List Event) (reason : Halt) → Passed m start now left unread events → next ≡ now ++ more → NoRead more → after ≡ unread
-      → length (bytes_read events) ≤ limit → HasBegun m (events ++ more) → Streams m limit (halted reason) start next left after
-  halts now next unread after events more halt.WriteFault p grown outputs kept few begun = record {
+      → length (bytes_read events) ≤ limit → HasBegun m (events ++ more) → (HasEnded (events ++ more) → after ≡ []) → Streams m limit (halted reason) start next left after
+  halts now next unread after events more halt.WriteFault p grown outputs kept few begun over = record {
     events = events ++ more;
     passed = passed_more m start now next left unread after events more p grown outputs kept;
-    ends = (begun, rw (read_same events more outputs) few);
+    ends = (begun, over, rw (read_same events more outputs) few);
   }
-  halts now next unread after events more halt.OutOfMemory p grown outputs kept few begun = record {
+  halts now next unread after events more halt.OutOfMemory p grown outputs kept few begun over = record {
     events = events ++ more;
     passed = passed_more m start now next left unread after events more p grown outputs kept;
-    ends = (begun, rw (read_same events more outputs) few);
+    ends = (begun, over, rw (read_same events more outputs) few);
   }
 
   -- the packet ended the run
@@ -139,6 +139,7 @@ module _ {C : Type 0} (m : Meaning) (stands : C → List Packet → Type 0) (lim
       let is_framed : IsFramed (bytes_read (t.events ++ e.events)) = rw read (framed_behind packets (drop used rest) n.stands.each behind) in
       halts now next unread after t.events e.events reason t.passed e.history e.outputs kept t.few
       (begun m (t.events ++ e.events) packets (drop used rest) grows read is_framed (went_out t.events e.events _ (e.output (output_of t.events) t.output)))
+      (λ ended. absurd (going_more t.events e.events e.outputs t.going ended))
 
   -- the piece is taken
   pub turn_taken : (now : List Event) (unread rest : List ℕ) (old new : Cutting) (consumer : C) (gathered : Output) → Turn m stands limit start now left unread rest old consumer gathered
@@ -169,6 +170,7 @@ module _ {C : Type 0} (m : Meaning) (stands : C → List Packet → Type 0) (lim
           tail = rest;
           framed = rw t.read s.0;
           how = inr s.1;
+          over = inl t.going;
           stood = t.stood;
           output = t.output;
         },
@@ -207,6 +209,7 @@ module _ {C : Type 0} (m : Meaning) (stands : C → List Packet → Type 0) (lim
       let is_framed : IsFramed (bytes_read (t.events ++ e.events)) = rw (read_same t.events e.events e.outputs, t.read, append-nil t.taken) (t.packets, next_held c, stands_framed t.taken t.packets c t.cut) in
       halts now next unread after t.events e.events reason t.passed e.history e.outputs kept t.few
       (begun m (t.events ++ e.events) t.packets (next_held c) grows read is_framed (went_out t.events e.events _ (e.output (output_of t.events) t.output)))
+      (λ ended. absurd (going_more t.events e.events e.outputs t.going ended))
 
   -- a piece came
   pub turn_read : (room : ℕ) (now next : List Event) (unread after bytes : List ℕ) (c : Cutting) (consumer : C) (gathered : Output) → gathered ≡ nothing → (t : Turn m stands limit start now left unread [] c consumer gathered)
@@ -232,10 +235,10 @@ module _ {C : Type 0} (m : Meaning) (stands : C → List Packet → Type 0) (lim
 
   -- the input ended
   pub turn_none : (room : ℕ) (now next : List Event) (unread after bytes : List ℕ) (c : Cutting) (consumer : C) (gathered : Output) → gathered ≡ nothing → Turn m stands limit start now left unread [] c consumer gathered
-      → Receives now next unread after bytes room → bytes ≡ []
+      → Receives now next unread after bytes room → 0 < room → bytes ≡ []
       → (s : Stopped m stands limit start next left after consumer gathered) × (s.tail ≡ next_held c) × IsFront (next_held c) × (length (joined s.packets) ≡ next_place c) × HasEnded s.events
-  turn_none room now next unread after (x ∷ bytes) c consumer gathered nil t r none = absurd cc
-  turn_none room now next unread after [] c consumer gathered nil t r none =
+  turn_none room now next unread after (x ∷ bytes) c consumer gathered nil t r some none = absurd cc
+  turn_none room now next unread after [] c consumer gathered nil t r some none =
       let shown = turn_shown now unread c consumer gathered nil t in
       let same : bytes_read (t.events ++ In [] ∷ []) ≡ bytes_read t.events = read_more t.events [] ∙ append-nil (bytes_read t.events) in
       let over : HasEnded (t.events ++ In [] ∷ []) = (t.events, [], refl) in (
@@ -247,6 +250,7 @@ module _ {C : Type 0} (m : Meaning) (stands : C → List Packet → Type 0) (lim
           tail = next_held c;
           framed = rw same shown.framed;
           how = inl over;
+          over = inr (r.end some none);
           stood = t.stood;
           output = ap (λ o. followed o gathered) (output_of-read t.events []) ∙ t.output;
         },
@@ -300,6 +304,10 @@ module _ {C : Type 0} (m : Meaning) (stands : C → List Packet → Type 0) (lim
   how_more events more tail (inl over) = inl (ended_more events more over)
   how_more events more tail (inr out) = inr out
 
+  over_more : (events more : List Event) (unread after : List ℕ) → NoRead more → after ≡ unread → (HasEnded events → ⊥) ⊎ (unread ≡ []) → HasEnded (events ++ more) → after ≡ []
+  over_more events more unread after outputs kept (inl going) ended = absurd (going_more events more outputs going ended)
+  over_more events more unread after outputs kept (inr none) ended = kept ∙ none
+
   -- the end, and then a fault or want of memory
   pub stopped_halted : (now next : List Event) (unread after : List ℕ) (consumer : C) (gathered : Output) (reason : Halt) (s : Stopped m stands limit start now left unread consumer gathered)
       → EmitsStart now next gathered (m.so_far s.packets) (m.at_end s.packets) → after ≡ unread → Streams m limit (halted reason) start next left after
@@ -310,13 +318,13 @@ module _ {C : Type 0} (m : Meaning) (stands : C → List Packet → Type 0) (lim
         rw (read_same s.events e.events e.outputs) s.framed,
         inr (went_out s.events e.events _ (e.output (output_of s.events) s.output), how_more s.events e.events s.tail s.how),
       ) in
-      halts now next unread after s.events e.events reason s.passed e.history e.outputs kept s.few begun
+      halts now next unread after s.events e.events reason s.passed e.history e.outputs kept s.few begun (over_more s.events e.events unread after e.outputs kept s.over)
 
   pub whole_ends : (room : ℕ) (now next final : List Event) (unread after last bytes : List ℕ) (c : Cutting) (consumer : C) (gathered : Output) (outcome : StreamEnd) → gathered ≡ nothing → Turn m stands limit start now left unread [] c consumer gathered
       → Receives now next unread after bytes room → 0 < room → bytes ≡ [] → cutting.Ends c cut_end.Whole
       → ((packets : List Packet) → stands consumer packets → EndsWith m gathered packets end.Done next final outcome) → last ≡ after → Streams m limit outcome start final left last
   whole_ends room now next final unread after last bytes c consumer gathered outcome nil before r some none whole ended kept =
-      let both = turn_none room now next unread after bytes c consumer gathered nil before r none in
+      let both = turn_none room now next unread after bytes c consumer gathered nil before r some none in
       let s : Stopped m stands limit start next left after consumer gathered = both.0 in
       elim (ended s.packets s.stood) [
         | inl (is, e) ↦ rw is (record {
@@ -337,7 +345,7 @@ module _ {C : Type 0} (m : Meaning) (stands : C → List Packet → Type 0) (lim
       → Receives now next unread after bytes room → 0 < room → bytes ≡ [] → cutting.Ends c (cut_end.Cut place)
       → ((packets : List Packet) → stands consumer packets → EndsWith m gathered packets (end.Broken kind.Cut place) next final outcome) → last ≡ after → Streams m limit outcome start final left last
   cut_ends place room now next final unread after last bytes c consumer gathered outcome nil before r some none cut ended kept =
-      let both = turn_none room now next unread after bytes c consumer gathered nil before r none in
+      let both = turn_none room now next unread after bytes c consumer gathered nil before r some none in
       let s : Stopped m stands limit start next left after consumer gathered = both.0 in
       elim (ended s.packets s.stood) [
         | inl (is, e) ↦ rw is (record {

@@ -41,6 +41,7 @@ pub record Stopped {C : Type 0} (m : Meaning) (stands : C → List Packet → Ty
   pub tail : List ℕ
   pub framed : Framed (bytes_read events) packets tail
   pub how : HasEnded events ⊎ IsOutOfSync tail
+  pub over : (HasEnded events → ⊥) ⊎ (unread ≡ [])
   pub stood : stands consumer packets
   pub output : followed (output_of events) gathered ≡ m.so_far packets
 

@@ -37,6 +37,10 @@ abbrev pub HasBegun : Meaning → List Event → Type 0
 HasBegun m events = (packets : List Packet) × (tail : List ℕ) × Framed (bytes_read events) packets tail
     × (IsStartOf (output_of events) (m.so_far packets) ⊎ (IsStartOf (output_of events) (m.at_end packets) × (HasEnded events ⊎ IsOutOfSync tail)))
 
+-- where a read answered the end of the input, nothing is unread
+abbrev pub IsAllRead : List Event → List ℕ → Type 0
+IsAllRead events unread = HasEnded events → unread ≡ []
+
 -- how a run ends, by its answer; at the end of the input nothing is unread
 abbrev pub Ends : Meaning → ℕ → StreamEnd → List Event → List ℕ → Type 0
 Ends m limit end.Done events unread = (packets : List Packet) × HasFinished m events packets [] × HasEnded events × (unread ≡ []) × (length (bytes_read events) ≤ limit)
@@ -48,8 +52,8 @@ Ends m limit end.TooLong events unread = (packets : List Packet) × (tail : List
     × (bytes_read events ≡ seen ++ byte ∷ []) × (length seen ≡ limit) × Framed seen packets tail × IsFront tail
     × (output_of events ≡ m.so_far packets) × (HasEnded events → ⊥)
 Ends m limit end.ReadFault events unread = (packets : List Packet) × (tail : List ℕ) × HasShown m events packets tail × IsFront tail × (length (bytes_read events) ≤ limit)
-Ends m limit end.WriteFault events unread = HasBegun m events × (length (bytes_read events) ≤ limit)
-Ends m limit end.OutOfMemory events unread = HasBegun m events × (length (bytes_read events) ≤ limit)
+Ends m limit end.WriteFault events unread = HasBegun m events × IsAllRead events unread × (length (bytes_read events) ≤ limit)
+Ends m limit end.OutOfMemory events unread = HasBegun m events × IsAllRead events unread × (length (bytes_read events) ≤ limit)
 
 -- What has passed through a port: what was added to its history and what was taken of its bytes, each read in its time.
 pub record Passed (m : Meaning) (old now : List Event) (left unread : List ℕ) (events : List Event) : Type 0 where
