@@ -3,6 +3,7 @@ pub mod CastTuning
 pub mod Delivered
 pub mod Each
 pub mod Framed
+pub mod GivesBack
 pub mod Hearing
 pub mod Joining
 pub mod Keeping
@@ -12,12 +13,14 @@ pub mod Notes
 pub mod Packets
 pub mod Payloads
 pub mod Peaks
+pub mod PlanOne
 pub mod Quiet
 pub mod Received
 pub mod Sent
 pub mod Sessions
 pub mod Sound
 pub mod Tables
+pub mod Taken
 pub mod Told
 pub mod Tunes
 pub mod Turned

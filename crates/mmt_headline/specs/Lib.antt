@@ -5,3 +5,6 @@ pub mod Programmes
 pub mod Peaks
 pub mod Names
 pub mod Notes
+pub mod Taken
+pub mod GivesBack
+pub mod PlanOne

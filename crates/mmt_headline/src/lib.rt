@@ -5,3 +5,5 @@
 pub mod bytes_heard;
 pub mod definitions_agree;
 pub mod programmes_received;
+pub mod take_runs;
+pub mod worked_plan;

@@ -1,0 +1,5 @@
+use Rattle.mmt_headline.proofs.take_runs.take_gives_back.Goals as goal
+use Rattle.mmt_headline.proofs.GivesBack.{gives-back}
+
+pub returns : goal.returns
+returns c = gives-back c.takes_delivery.ensures c.takes_a_start.ensures

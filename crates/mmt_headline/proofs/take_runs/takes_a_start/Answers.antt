@@ -1,0 +1,5 @@
+use Rattle.mmt_headline.proofs.take_runs.takes_a_start.Goals as goal
+use Rattle.mmt_headline.proofs.Taken.{takes-start as law}
+
+pub returns : goal.returns
+returns c = law c.programmes_are_received.ensures
