@@ -4,6 +4,7 @@ use Rattle.std.specs.List.{count_by}
 use Rattle.std.proofs.lemmas.Bool.{le-leb, true≢false}
 use Rattle.std.proofs.lemmas.List.{drop_all, drop_more, take-append-drop, take_all, take_more}
 use Rattle.std.proofs.lemmas.List.Sums.{count_by-le-length, count_by_more_no, count_by_more_yes}
+use Rattle.mmt_admit.specs.Calm.{live_between}
 use Rattle.mmt_admit.specs.Faults.{as_fault}
 use Rattle.mmt_admit.specs.declared.answers.NotAdmitted.{NotAdmitted}
 use Rattle.mmt_model.specs.Admission.{Fault, fault_of_key, fault_of_live, first_among, first_below, first_parameters, has_parameters, is_named_by, is_of_one_mpu, live_at, or_else, sample_or_item, unless}
@@ -68,24 +69,24 @@ among-ends f ms i l e = sym (sym (ap (first_among f) (take_all i ms l)) ∙ e)
 
 -- ---- how many MPUs are live
 
-pub live_of : (tick m : ℕ) → List SentMpu → ℕ
-live_of tick m mpus = count_by (λ (x : SentMpu). is_named_by tick x.named_from && nat_lt tick x.last.0) (take m mpus)
+pub live_of : (low high m : ℕ) → List SentMpu → ℕ
+live_of low high m mpus = count_by (λ (x : SentMpu). is_named_by high x.named_from && nat_lt low x.last.0) (take m mpus)
 
-pub live-begins : (tick : ℕ) (mpus : List SentMpu) → live_of tick 0 mpus ≡ 0
+pub live-begins : (low high : ℕ) (mpus : List SentMpu) → live_of low high 0 mpus ≡ 0
 unfolding live_of
-live-begins tick mpus = refl
+live-begins low high mpus = refl
 
-pub live-yes : (cast : Cast) (tick m : ℕ) → m < length cast.mpus → (is_named_by tick (sent_mpu cast m).named_from && nat_lt tick (sent_mpu cast m).last.0) ≡ true → live_of tick (m + 1) cast.mpus ≡ live_of tick m cast.mpus + 1
+pub live-yes : (cast : Cast) (low high m : ℕ) → m < length cast.mpus → (is_named_by high (sent_mpu cast m).named_from && nat_lt low (sent_mpu cast m).last.0) ≡ true → live_of low high (m + 1) cast.mpus ≡ live_of low high m cast.mpus + 1
 unfolding live_of sent_mpu
-live-yes cast tick m l t = count_by_more_yes (λ (x : SentMpu). is_named_by tick x.named_from && nat_lt tick x.last.0) cast.mpus m no_sent_mpu l t
+live-yes cast low high m l t = count_by_more_yes (λ (x : SentMpu). is_named_by high x.named_from && nat_lt low x.last.0) cast.mpus m no_sent_mpu l t
 
-pub live-no : (cast : Cast) (tick m : ℕ) → m < length cast.mpus → (is_named_by tick (sent_mpu cast m).named_from && nat_lt tick (sent_mpu cast m).last.0) ≡ false → live_of tick (m + 1) cast.mpus ≡ live_of tick m cast.mpus
+pub live-no : (cast : Cast) (low high m : ℕ) → m < length cast.mpus → (is_named_by high (sent_mpu cast m).named_from && nat_lt low (sent_mpu cast m).last.0) ≡ false → live_of low high (m + 1) cast.mpus ≡ live_of low high m cast.mpus
 unfolding live_of sent_mpu
-live-no cast tick m l t = count_by_more_no (λ (x : SentMpu). is_named_by tick x.named_from && nat_lt tick x.last.0) cast.mpus m no_sent_mpu l t
+live-no cast low high m l t = count_by_more_no (λ (x : SentMpu). is_named_by high x.named_from && nat_lt low x.last.0) cast.mpus m no_sent_mpu l t
 
-pub live-ends : (tick m : ℕ) (mpus : List SentMpu) → length mpus ≤ m → live_of tick m mpus ≡ live_at mpus tick
-unfolding live_of live_at
-live-ends tick m mpus l = ap (count_by (λ (x : SentMpu). is_named_by tick x.named_from && nat_lt tick x.last.0)) (take_all m mpus l)
+pub live-ends : (low high m : ℕ) (mpus : List SentMpu) → length mpus ≤ m → live_of low high m mpus ≡ live_between mpus low high
+unfolding live_of live_between
+live-ends low high m mpus l = ap (count_by (λ (x : SentMpu). is_named_by high x.named_from && nat_lt low x.last.0)) (take_all m mpus l)
 
 -- where there are no more than 1,024 MPUs, no more are live
 pub few-live : (cast : Cast) (n : ℕ) → length cast.mpus ≤ 1024 → first_below (fault_of_live cast) n ≡ None

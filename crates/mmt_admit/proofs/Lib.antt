@@ -3,3 +3,4 @@ pub mod Counting
 pub mod Sliding
 pub mod Keys
 pub mod Chaining
+pub mod Calming

@@ -5,8 +5,9 @@ ghost use Rattle.mmt_admit.specs.Faults.{as_fault, fault_value, IsReadable};
 ghost use Rattle.mmt_model.specs.Admission.{fault};
 
 use crate::answers::NotAdmitted;
-use crate::copies::{first_copy, first_live};
+use crate::copies::first_copy;
 use crate::gaps::first_gap;
+use crate::live::first_live;
 use crate::loads::first_load;
 use crate::numbers::first_number;
 use crate::params::params_fault;
@@ -93,7 +94,9 @@ fn first_fault(cast: &Cast) -> Option<NotAdmitted>
 }
 
 /// Admits a cast, or tells its first fault. It goes over the packets, units and MPUs a fixed number of
-/// times, and for each table copy over the MPUs that it names and once over all MPUs. It takes no memory.
+/// times, and for each table copy over the MPUs that it names. In a cast of more than 1,024 MPUs it goes
+/// over them anew for each stretch of ticks in which too few of them begin to be too many, and twice
+/// more for a table copy at most. It takes no memory.
 ///
 /// # Errors
 ///

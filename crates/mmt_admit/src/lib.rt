@@ -8,6 +8,7 @@ mod copies;
 mod gaps;
 #[cfg(test)]
 mod large_tests;
+mod live;
 mod loads;
 mod numbers;
 mod params;

@@ -6,49 +6,6 @@ use mmt_model::{Carries, Cast, List, Params, Sent, SentMpu, SentUnit, TableCopy,
 use std::alloc::{AllocError, Global};
 use std::test::Fail;
 
-/// A change to a cast. The first number is the place of the packet, unit, MPU or table copy.
-#[derive(Clone, Copy)]
-pub(crate) enum Change {
-    Delay(u32),
-    Window(u32),
-    Bound(u32),
-    /// A packet's timestamp.
-    At(usize, u64),
-    /// A packet's number.
-    Number(usize, u32),
-    /// What a packet carries.
-    Carries(usize, Carries),
-    /// One packet more at the end: timestamp, packet id, number and payload length.
-    Packet(u64, u16, u32, u32),
-    /// A packet is taken from its place to an earlier one.
-    Move(usize, usize),
-    /// A packet is left out.
-    Without(usize),
-    UnitFirst(usize, u64),
-    UnitLast(usize, u64),
-    UnitDue(usize, u64),
-    /// A unit's key: movie fragment, sample and offset.
-    Key(usize, u32, u32, u32),
-    /// A unit's key, of an item.
-    Item(usize, u32),
-    /// Which MPU of its asset a unit is of.
-    UnitMpu(usize, u32),
-    /// The least due tick of an MPU.
-    Least(usize, u64),
-    /// The last due tick of an MPU.
-    Last(usize, u64),
-    /// From which tick an MPU is named.
-    NamedFrom(usize, Option<u64>),
-    /// One MPU more: its least and its last due tick, and from which tick it is named.
-    Mpu(u64, u64, u64),
-    CopyFirst(usize, u64),
-    CopyLast(usize, u64),
-    /// One table copy more, in one packet at this tick.
-    Copy(u64),
-    /// A table copy names one MPU more.
-    Names(usize, u32),
-}
-
 /// What a cast is made of.
 #[derive(Drop)]
 pub(crate) struct Sample {
@@ -156,47 +113,126 @@ impl Sample {
         Ok(sample)
     }
 
-    /// Makes a change.
-    pub(crate) fn change(&mut self, alloc: Global, change: Change) -> Result<(), Fail> {
-        match change {
-            Change::Delay(delay) => self.params.delay = delay,
-            Change::Window(window) => self.params.window = window,
-            Change::Bound(bound) => self.params.bound = bound,
-            Change::At(n, at) => self.packets.get_mut(n).ok_or("packet")?.at = LongTick(at),
-            Change::Number(n, number) => self.packets.get_mut(n).ok_or("packet")?.number = number,
-            Change::Carries(n, carries) => {
-                self.packets.get_mut(n).ok_or("packet")?.carries = carries;
+    /// Makes a change: a word and numbers, the first of them the place of the packet, unit, MPU or table
+    /// copy.
+    pub(crate) fn change(&mut self, alloc: Global, text: &str) -> Result<(), Fail> {
+        let (word, rest) = text.split_once(" ").ok_or("no number")?;
+        let n = numbers(rest)?;
+        if self.change_params(word, n)
+            || self.change_packets(word, n)?
+            || self.change_units(word, n)?
+            || self.change_mpus(word, n)?
+            || self.change_copies(alloc, word, n)?
+        {
+            Ok(())
+        } else {
+            Err("no change")?
+        }
+    }
+
+    // Changes the values of the buffer message, or answers no.
+    fn change_params(&mut self, word: &str, n: [u64; 4]) -> bool {
+        let value = low32(n[0]);
+        match word {
+            "delay" => self.params.delay = value,
+            "window" => self.params.window = value,
+            "bound" => self.params.bound = value,
+            _ => return false,
+        }
+        true
+    }
+
+    // Changes a packet's timestamp, its number or what it carries, adds one (timestamp, packet id, number
+    // and payload length), takes one to an earlier place or leaves one out, or answers no.
+    fn change_packets(&mut self, word: &str, n: [u64; 4]) -> Result<bool, Fail> {
+        let place = n[0] as usize;
+        match word {
+            "at" => self.packets.get_mut(place).ok_or("packet")?.at = LongTick(n[1]),
+            "number" => self.packets.get_mut(place).ok_or("packet")?.number = low32(n[1]),
+            "carries-unit" => {
+                self.packets.get_mut(place).ok_or("packet")?.carries = Carries::Whole { unit: 0 };
             }
-            Change::Packet(at, id, number, length) => {
-                self.packets.push(packet(at, id, number, length))?;
+            "carries-message" => {
+                let message = Carries::Parameters { signal: 0 };
+                self.packets.get_mut(place).ok_or("packet")?.carries = message;
             }
-            Change::Move(from, to) => self.move_packet(from, to)?,
-            Change::Without(n) => {
-                let _ = self.packets.get(n).ok_or("packet")?;
-                self.packets.remove(n);
+            "packet" => {
+                let more = packet(n[0], low16(n[1]), low32(n[2]), low32(n[3]));
+                self.packets.push(more)?;
             }
-            Change::UnitFirst(u, at) => self.unit(u)?.first = LongTick(at),
-            Change::UnitLast(u, at) => self.unit(u)?.last = LongTick(at),
-            Change::UnitDue(u, at) => self.unit(u)?.due = LongTick(at),
-            Change::Key(u, movie_fragment, sample, offset) => {
-                self.unit(u)?.key = UnitKey::Timed {
-                    movie_fragment,
-                    sample,
-                    offset,
+            "move" => self.move_packet(place, n[1] as usize)?,
+            "without" => {
+                let _ = self.packets.get(place).ok_or("packet")?;
+                self.packets.remove(place);
+            }
+            _ => return Ok(false),
+        }
+        Ok(true)
+    }
+
+    // Changes a unit's ticks, its key (movie fragment, sample and offset, or an item) or which MPU of its
+    // asset it is of, or answers no.
+    fn change_units(&mut self, word: &str, n: [u64; 4]) -> Result<bool, Fail> {
+        let place = n[0] as usize;
+        match word {
+            "first" => self.unit(place)?.first = LongTick(n[1]),
+            "last" => self.unit(place)?.last = LongTick(n[1]),
+            "due" => self.unit(place)?.due = LongTick(n[1]),
+            "key" => {
+                self.unit(place)?.key = UnitKey::Timed {
+                    movie_fragment: low32(n[1]),
+                    sample: low32(n[2]),
+                    offset: low32(n[3]),
                 };
             }
-            Change::Item(u, item) => self.unit(u)?.key = UnitKey::Item { item },
-            Change::UnitMpu(u, mpu) => self.unit(u)?.mpu = mpu,
-            Change::Least(m, at) => self.mpus.get_mut(m).ok_or("MPU")?.least = LongTick(at),
-            Change::Last(m, at) => self.mpus.get_mut(m).ok_or("MPU")?.last = LongTick(at),
-            Change::NamedFrom(m, at) => {
-                self.mpus.get_mut(m).ok_or("MPU")?.named_from = at.map(|tick| LongTick(tick));
+            "item" => self.unit(place)?.key = UnitKey::Item { item: low32(n[1]) },
+            "of-mpu" => self.unit(place)?.mpu = low32(n[1]),
+            _ => return Ok(false),
+        }
+        Ok(true)
+    }
+
+    // Changes the least or the last due tick of an MPU or the tick from which it is named, or adds one
+    // with these three, or answers no.
+    fn change_mpus(&mut self, word: &str, n: [u64; 4]) -> Result<bool, Fail> {
+        let place = n[0] as usize;
+        match word {
+            "mpu-least" => self.mpus.get_mut(place).ok_or("MPU")?.least = LongTick(n[1]),
+            "mpu-last" => self.mpus.get_mut(place).ok_or("MPU")?.last = LongTick(n[1]),
+            "mpu-from" => {
+                self.mpus.get_mut(place).ok_or("MPU")?.named_from = Some(LongTick(n[1]));
             }
-            Change::Mpu(least, last, from) => self.mpus.push(mpu(least, last, Some(from)))?,
-            Change::CopyFirst(c, at) => self.copies.get_mut(c).ok_or("copy")?.first = LongTick(at),
-            Change::CopyLast(c, at) => self.copies.get_mut(c).ok_or("copy")?.last = LongTick(at),
-            Change::Copy(at) => self.copies.push(copy(alloc, at))?,
-            Change::Names(c, m) => self.copies.get_mut(c).ok_or("copy")?.names.push(m)?,
+            "mpu-unnamed" => self.mpus.get_mut(place).ok_or("MPU")?.named_from = None,
+            "mpu" => self.mpus.push(mpu(n[0], n[1], Some(n[2])))?,
+            _ => return Ok(false),
+        }
+        Ok(true)
+    }
+
+    // Changes the ticks of a table copy or lets it name one MPU more, or adds one in a packet at a tick,
+    // or answers no.
+    fn change_copies(&mut self, alloc: Global, word: &str, n: [u64; 4]) -> Result<bool, Fail> {
+        let place = n[0] as usize;
+        match word {
+            "copy-first" => self.copies.get_mut(place).ok_or("copy")?.first = LongTick(n[1]),
+            "copy-last" => self.copies.get_mut(place).ok_or("copy")?.last = LongTick(n[1]),
+            "copy-names" => {
+                self.copies
+                    .get_mut(place)
+                    .ok_or("copy")?
+                    .names
+                    .push(low32(n[1]))?;
+            }
+            "copy" => self.copies.push(copy(alloc, n[0]))?,
+            _ => return Ok(false),
+        }
+        Ok(true)
+    }
+
+    /// Makes changes, each after ` && ` but the first.
+    pub(crate) fn changes(&mut self, alloc: Global, changes: &str) -> Result<(), Fail> {
+        for change in changes.split(" && ") {
+            self.change(alloc, change)?;
         }
         Ok(())
     }
@@ -244,11 +280,36 @@ pub(crate) fn told(alloc: Global, cast: &Cast) -> Result<String, AllocError> {
     }
 }
 
-/// What the program says of the worked cast with these changes.
-pub(crate) fn told_of(alloc: Global, changes: &[Change]) -> Result<String, Fail> {
-    let mut sample = Sample::worked(alloc)?;
-    for change in changes {
-        sample.change(alloc, *change)?;
+/// The first row of a table that is wrong, with what is told, or no text. A row is `CHANGES @ TOLD`: what
+/// the program says of the worked cast with these changes.
+pub(crate) fn wrong_row(alloc: Global, rows: &str) -> Result<String, Fail> {
+    for row in rows.lines() {
+        let (changes, want) = row.split_once(" @ ").ok_or("no row")?;
+        let mut sample = Sample::worked(alloc)?;
+        sample.changes(alloc, changes)?;
+        let told = sample.told(alloc)?;
+        if told.as_str() != want {
+            return Ok(format!(in alloc; "{row}, and not {told}")?);
+        }
     }
-    Ok(sample.told(alloc)?)
+    Ok(String::new(alloc))
+}
+
+// A number's low 32 bits.
+fn low32(n: u64) -> u32 {
+    (n % 4_294_967_296) as u32
+}
+
+// A number's low 16 bits.
+fn low16(n: u64) -> u16 {
+    (n % 65_536) as u16
+}
+
+// Up to four numbers, with a space between them.
+fn numbers(text: &str) -> Result<[u64; 4], Fail> {
+    let mut numbers = [0; 4];
+    for (number, word) in numbers.iter_mut().zip(text.split(" ")) {
+        *number = word.parse::<u64>().ok().ok_or("no number")?;
+    }
+    Ok(numbers)
 }
