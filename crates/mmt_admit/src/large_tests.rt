@@ -43,13 +43,12 @@ fn live_mpus_are_at_most_1024(rt: HostRuntime) -> Result<(), Fail> {
 
 // A cast of so many MPUs, each named 100 ticks after the one before it and live for so many ticks, with a
 // table copy where each is named that names it.
-fn with_many(alloc: Global, count: u64, ticks: u64) -> Result<Sample, Fail> {
+fn with_many(alloc: Global, count: u32, ticks: u32) -> Result<Sample, Fail> {
     let mut sample = Sample::worked(alloc)?;
     for m in 1..count {
-        let tick = 65_536_100 + m * 100;
-        sample
-            .mpus
-            .push(mpu(tick + ticks, tick + ticks, Some(tick)))?;
+        let tick = 65_536_100 + m as u64 * 100;
+        let last = tick + ticks as u64;
+        sample.mpus.push(mpu(last, last, Some(tick)))?;
         sample.change(alloc, format!(in alloc; "copy {tick}")?.as_str())?;
         sample.change(alloc, format!(in alloc; "copy-names {m} {m}")?.as_str())?;
     }
