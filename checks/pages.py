@@ -1,7 +1,8 @@
-"""checks/pages.py PROGRAM: runs what README.md and docs/SENDING.md show, from the top of the repository, and compares byte for byte.
+"""checks/pages.py PROGRAM: runs what README.md, docs/SENDING.md and docs/PLANS.md show, from the top of the repository, and compares byte for byte.
 
-It runs each command of README's example block, and for each rule of admission in docs/SENDING.md the plan that breaks it, and looks for what
-is printed in the page. Without a difference it prints how many it compared."""
+It runs each command of README's example block, for each rule of admission in docs/SENDING.md the plan that breaks it, and for each refusal
+of a plan in docs/PLANS.md the plan that is refused so, and looks for what is printed in the page. Without a difference it prints how many it
+compared."""
 import copy
 import json
 import os
@@ -87,7 +88,73 @@ def rules():
         differs(f'bytes written where rule {rule} is broken', '', done.stdout)
 
 
+def one_more(items):
+    items.append(copy.deepcopy(items[0]))
+
+
+def named(plan):
+    mpu = plan['assets'][0]['mpus'][0]
+    plan['assets'][0]['mpus'] = [dict(mpu, number=i, aus=[]) for i in range(6000)]
+    plan['signalling'][1]['names'] = [[0, i] for i in range(6000)]
+
+
+def long_units(plan):
+    plan['limit'] = 64
+    mpu = plan['assets'][0]['mpus'][0]
+    mpu['units'] = [dict(mpu['units'][0], sample=i + 1, length=16777216) for i in range(64)]
+
+
+def mpu_of(plan):
+    return plan['assets'][0]['mpus'][0]
+
+
+# each refusal of the page in its order, and what is changed in the example: the plan, its text or the files
+REFUSALS = [
+    ('plan-absent', lambda files: files.pop('plan.json')),
+    ('plan-long', lambda files: files.update({'plan.json': files['plan.json'] + b' ' * 16777216})),
+    ('not-json', lambda files: files.update({'plan.json': files['plan.json'].rstrip()[:-1]})),
+    ('not-object', lambda plan: plan['assets'][0]['mpus'].insert(0, 7)),
+    ('missing', lambda plan: unit(plan, 1).pop('from')),
+    ('value', lambda plan: plan.update(limit=63)),
+    ('value', lambda plan: one_more(plan['signalling'][1]['names'])),
+    ('value', lambda plan: mpu_of(plan)['aus'][1].pop()),
+    ('unknown-key', lambda plan: mpu_of(plan).update(x=0)),
+    ('packet-id-twice', lambda plan: one_more(plan['assets'])),
+    ('mpu-twice', lambda plan: one_more(plan['assets'][0]['mpus'])),
+    ('no-such-mpu', lambda plan: plan['signalling'][1].update(names=[[0, 1]])),
+    ('time-range', lambda plan: mpu_of(plan).update(time=2 ** 64 - 1)),
+    ('table-long', named),
+    ('cast-long', long_units),
+    ('file-absent', lambda files: files.pop('v.bin')),
+    ('unit-short', lambda files: files.update({'v.bin': bytes(3499)})),
+]
+
+
+def refusals():
+    page = open(os.path.join(top, 'docs', 'PLANS.md'), encoding='utf-8').read()
+    example = re.search(r'(?:^    .*\n)+', page[page.index('## An example'):], re.M)[0]
+    text = ''.join(line[4:] for line in example.splitlines(True))
+    rows = re.findall(r'^\| `([a-z-]+)` \|.*\| `(mmt: plan: [^`]* at (?!line)[^`]*)` \|$', page, re.M)
+    differs('the refusals of docs/PLANS.md', [reason for reason, _ in REFUSALS], [reason for reason, _ in rows])
+    for (reason, change), (_, wanted) in zip(REFUSALS, rows):
+        files = {'plan.json': text.encode(), 'v.bin': bytes(3500)}
+        if change.__code__.co_varnames[0] == 'files':
+            change(files)
+        else:
+            plan = json.loads(text)
+            change(plan)
+            files['plan.json'] = json.dumps(plan).encode()
+        with tempfile.TemporaryDirectory() as folder:
+            for name, content in files.items():
+                with open(os.path.join(folder, name), 'wb') as file:
+                    file.write(content)
+            done = subprocess.run([program, 'mux', 'plan.json'], cwd=folder, capture_output=True, text=True)
+        differs(f'refusal {wanted}', wanted + '\n', done.stderr)
+        differs(f'bytes written at {wanted}', '', done.stdout)
+
+
 readme()
 rules()
+refusals()
 print(f'{compared} compared, {failed} differ')
 sys.exit(failed > 0)
