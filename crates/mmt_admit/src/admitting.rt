@@ -94,9 +94,9 @@ fn first_fault(cast: &Cast) -> Option<NotAdmitted>
 }
 
 /// Admits a cast, or tells its first fault. It goes over the packets, units and MPUs a fixed number of
-/// times, and for each table copy over the MPUs that it names. In a cast of more than 1,024 MPUs it goes
-/// over them anew for each stretch of ticks in which too few of them begin to be too many, and twice
-/// more for a table copy at most. It takes no memory.
+/// times, and for each table copy over the MPUs that it names. In a cast of more than 1,024 MPUs it counts
+/// once for a stretch of ticks those that are named by its end and last beyond its start. Where they are
+/// too many, it counts those at the table copy alone, so twice for a table copy at most. It takes no memory.
 ///
 /// # Errors
 ///

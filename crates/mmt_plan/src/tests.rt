@@ -166,17 +166,19 @@ const MOVED: &str = r#"{"at":0,"kind":"parameters"} =>  {
  && {"flow":"ff0e0000000000000000000000000101:51300", => {
  && "assets" => "flow":"ff0e0000000000000000000000000101:51300","assets""#;
 
+// The programme that a text is, written out.
+fn shown(alloc: Global, text: &str) -> Result<String, Fail> {
+    let programme = programme_of(alloc, text)?;
+    let text = format!(in alloc; "{programme:?}")?;
+    Ok(text)
+}
+
 #[test]
 fn members_stand_in_any_order(rt: HostRuntime) -> Result<(), Fail> {
-    let alloc = rt.alloc();
-    let text = changed(alloc, P1, MOVED)?;
-    let text = replaced(alloc, text.as_str(), "\"kind\" :", "\"kind\"\t:\r\n")?;
-    let moved = programme_of(alloc, text.as_str())?;
-    let same = programme_of(alloc, P1)?;
-    let (moved, same) = (
-        format!(in alloc; "{moved:?}")?,
-        format!(in alloc; "{same:?}")?,
-    );
+    let text = changed(rt.alloc(), P1, MOVED)?;
+    let text = replaced(rt.alloc(), text.as_str(), "\"kind\" :", "\"kind\"\t:\r\n")?;
+    let moved = shown(rt.alloc(), text.as_str())?;
+    let same = shown(rt.alloc(), P1)?;
     assert_eq!(rt; moved.as_str(), same.as_str());
     Ok(())
 }
