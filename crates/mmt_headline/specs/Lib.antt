@@ -8,3 +8,4 @@ pub mod Notes
 pub mod Taken
 pub mod GivesBack
 pub mod PlanOne
+pub mod WholeCasts
