@@ -121,7 +121,7 @@ near-in-order packets rise (suc n) l = near-after packets rise 0 n (omega (arith
 
 full-first : (f : ℕ) → ((f == 0) || (0 % f == 0)) ≡ true
 full-first zero = refl
-full-first (suc f) = let e : 0 % suc f ≡ 0 = grind arith in ap (λ (r : ℕ). (suc f == 0) || (r == 0)) e
+full-first (suc f) = let e : 0 % suc f ≡ 0 = grind arith in or_right (suc f == 0) (0 % suc f == 0) (eq-eqb (0 % suc f) 0 e)
 
 pub tuned-in-order : (cast : Cast) (full_every n : ℕ) → 0 < n → has_parameters (get_or cast.packets 0 no_packet).carries ≡ true → tuned_places cast full_every (numbers 0 n) ≡ numbers 0 n
 unfolding tuned_places tunes_at from_heard from_first numbers
@@ -186,13 +186,13 @@ top-last : (packets : List Sent) (ns : List ℕ) → 0 < length ns → sent_at p
 unfolding top last_of_places
 top-last packets [] some = absurd (omega (arith, some))
 top-last packets (n ∷ []) some = let e : max n 0 ≡ n = omega arith in subst (λ (i : ℕ). sent_at packets i ≤ max (sent_at packets n) 0) (sym e) (omega arith)
-top-last packets (n ∷ m ∷ ns) some = by-order (cases_lt n (top (m ∷ ns)))
+top-last packets (n ∷ m ∷ ns) some = by-order (top-last packets (m ∷ ns) (omega arith)) (cases_lt n (top (m ∷ ns)))
   where
-    by-order : (n < top (m ∷ ns)) ⊎ (top (m ∷ ns) ≤ n) → sent_at packets (max n (top (m ∷ ns))) ≤ max (sent_at packets n) (last_of_places packets (m ∷ ns))
-    by-order (inl lt) =
+    by-order : sent_at packets (top (m ∷ ns)) ≤ last_of_places packets (m ∷ ns) → (n < top (m ∷ ns)) ⊎ (top (m ∷ ns) ≤ n) → sent_at packets (max n (top (m ∷ ns))) ≤ max (sent_at packets n) (last_of_places packets (m ∷ ns))
+    by-order rest (inl lt) =
         let e : max n (top (m ∷ ns)) ≡ top (m ∷ ns) = omega (arith, lt) in
-        subst (λ (i : ℕ). sent_at packets i ≤ max (sent_at packets n) (last_of_places packets (m ∷ ns))) (sym e) (omega (arith, top-last packets (m ∷ ns) (omega arith)))
-    by-order (inr ge) =
+        subst (λ (i : ℕ). sent_at packets i ≤ max (sent_at packets n) (last_of_places packets (m ∷ ns))) (sym e) (omega (arith, rest))
+    by-order rest (inr ge) =
         let e : max n (top (m ∷ ns)) ≡ n = omega (arith, ge) in
         subst (λ (i : ℕ). sent_at packets i ≤ max (sent_at packets n) (last_of_places packets (m ∷ ns))) (sym e) (omega arith)
 
@@ -245,7 +245,7 @@ pub record IsNamedAt (m tick : ℕ) (cs : List TableCopy) : Type 0 where
 pub named-at : (m tick : ℕ) (cs : List TableCopy) → named_from_of m cs ≡ Some tick → IsNamedAt m tick cs
 unfolding named_from_of
 named-at m tick [] e = absurd cc
-named-at m tick (c ∷ cs) e = go (member m c.names) refl (named_from_of m cs) refl e
+named-at m tick (c ∷ cs) e = go (λ t h. named-at m t cs h) (member m c.names) refl (named_from_of m cs) refl e
   where
     later : (t : ℕ) → t ≤ tick → IsNamedAt m t cs → IsNamedAt m tick (c ∷ cs)
     later t l n = record { at = suc n.at; there = omega (arith, n.there); names = n.names; ends = omega (arith, n.ends, l) }
@@ -256,12 +256,12 @@ named-at m tick (c ∷ cs) e = go (member m c.names) refl (named_from_of m cs) r
     number-of : (a b : ℕ) → Some a ≡ Some b → a ≡ b
     number-of a b e = cc
 
-    go : (b : Bool) → member m c.names ≡ b → (o : Option ℕ) → named_from_of m cs ≡ o → cond b (Some (least_with c.last.0 o)) o ≡ Some tick → IsNamedAt m tick (c ∷ cs)
-    go false is o same e = later tick (le_refl tick) (named-at m tick cs (same ∙ e))
-    go true is None same e = here (let n = number-of c.last.0 tick e in omega (arith, n)) is
-    go true is (Some r) same e =
+    go : ((t : ℕ) → named_from_of m cs ≡ Some t → IsNamedAt m t cs) → (b : Bool) → member m c.names ≡ b → (o : Option ℕ) → named_from_of m cs ≡ o → cond b (Some (least_with c.last.0 o)) o ≡ Some tick → IsNamedAt m tick (c ∷ cs)
+    go among false is o same e = later tick (le_refl tick) (among tick (same ∙ e))
+    go among true is None same e = here (let n = number-of c.last.0 tick e in omega (arith, n)) is
+    go among true is (Some r) same e =
         let n = number-of (min c.last.0 r) tick e in
         ⊎_elim
         (λ (lt : c.last.0 < r). here (omega (arith, n, lt)) is)
-        (λ (ge : r ≤ c.last.0). later r (omega (arith, n, ge)) (named-at m r cs same))
+        (λ (ge : r ≤ c.last.0). later r (omega (arith, n, ge)) (among r same))
         (cases_lt c.last.0 r)

@@ -10,8 +10,9 @@ use Rattle.mmt_cast.specs.Casting.{cast_of, due_of_placed, least, mpu_as_sent, t
 use Rattle.mmt_cast.specs.Placing.{PlacedUnit, all_units, entry_of_mpu}
 use Rattle.mmt_cast.specs.Right.{contents_of, mpu_at, no_placed_unit, unit_at, unit_bytes}
 use Rattle.mmt_delivery.proofs.Admitted.{IsWellFormed}
-use Rattle.mmt_delivery.proofs.Carried.{copies-many, entry-at, get-map, unit-at, units-many, well-formed}
-use Rattle.mmt_delivery.proofs.Faultless.{IsFaultless, faultless}
+use Rattle.mmt_delivery.proofs.Carried.{copies-many, entry-at, formed, get-map, unit-at, units-many}
+use Rattle.mmt_delivery.proofs.Admitting.{apart}
+use Rattle.mmt_delivery.proofs.Faultless.{IsFaultless, admitted, faultless}
 use Rattle.mmt_delivery.proofs.Laid.{no_copy}
 use Rattle.mmt_model.specs.Admission.{fault_of_mpu, fault_of_naming, has_parameters}
 use Rattle.mmt_model.specs.Broadcast.{Broadcast, CopyPlaces, due_of_unit, entry_of, presentation_of, unit_of}
@@ -83,11 +84,11 @@ in-mapped f x (y ∷ ys) (inr i) = inr (in-mapped f x ys i)
 in-filtered : {X : Type 0} (q : X → Bool) (x : X) (xs : List X) → IsIn x xs → q x ≡ true → IsIn x (filter q xs)
 in-filtered q x [] i h = absurd i
 in-filtered {X} q x (y ∷ ys) (inl same) h = let e : q y ≡ true = ap q same ∙ h in rw e (inl same)
-in-filtered {X} q x (y ∷ ys) (inr i) h = go (q y)
+in-filtered {X} q x (y ∷ ys) (inr i) h = go (q y) (in-filtered q x ys i h)
   where
-    go : (b : Bool) → IsIn x (cond b (y ∷ filter q ys) (filter q ys))
-    go true = inr (in-filtered q x ys i h)
-    go false = in-filtered q x ys i h
+    go : (b : Bool) → IsIn x (filter q ys) → IsIn x (cond b (y ∷ filter q ys) (filter q ys))
+    go true later = inr later
+    go false later = later
 
 mpu-least : (programme : Programme) (u : ℕ) → u < length (all_units programme) → (sent_mpu (cast_of programme) (mpu_of (cast_of programme) u)).least.0 ≤ due_of_placed (unit_at programme u)
 unfolding mpu_as_sent unit_at
@@ -125,8 +126,8 @@ module _ (programme : Programme) (files : ℕ → List ℕ) (ok : IsSendable pro
   right : IsCastOf c (contents_sent programme files) (names_in 1)
   right = casts-carry 1 programme files ok
 
-  formed : IsWellFormed b (names_in 1)
-  formed = well-formed c (contents_sent programme files) (names_in 1) right
+  laid : IsWellFormed b (names_in 1)
+  laid = formed c (contents_sent programme files) (names_in 1) right (apart b c.params (admitted c (contents_sent programme files) (names_in 1) ok.admitted right))
 
   good : IsFaultless c
   good = faultless c ok.admitted
@@ -139,8 +140,8 @@ module _ (programme : Programme) (files : ℕ → List ℕ) (ok : IsSendable pro
   copy-members i l =
       let li : i < length b.cast.copies = omega (arith, l, copies-many c (contents_sent programme files)) in
       let is : get_or b.cast.copies i no_copy ≡ copy_places c.packets (get_or c.copies i no_table_copy) = get-map (copy_places c.packets) c.copies i no_table_copy no_copy l in (
-        subst (λ (k : CopyPlaces). AllByRecursion (λ (n : ℕ). n < length c.packets) k.members) is (each-at (λ (k : CopyPlaces). AllByRecursion (λ (n : ℕ). n < length c.packets) k.members) b.cast.copies i no_copy formed.copy_of_cast li),
-        subst (λ (k : CopyPlaces). 0 < length k.members) is (each-at (λ (k : CopyPlaces). 0 < length k.members) b.cast.copies i no_copy formed.copy_some li),
+        subst (λ (k : CopyPlaces). AllByRecursion (λ (n : ℕ). n < length c.packets) k.members) is (each-at (λ (k : CopyPlaces). AllByRecursion (λ (n : ℕ). n < length c.packets) k.members) b.cast.copies i no_copy laid.copy_of_cast li),
+        subst (λ (k : CopyPlaces). 0 < length k.members) is (each-at (λ (k : CopyPlaces). 0 < length k.members) b.cast.copies i no_copy laid.copy_some li),
       )
 
   counts : (u : ℕ) → u < length (all_units programme)
@@ -168,7 +169,7 @@ module _ (programme : Programme) (files : ℕ → List ℕ) (ok : IsSendable pro
       let lu : u < length b.units = omega (arith, l, length-units programme, units-many c (contents_sent programme files)) in
       and_from (is_complete b.cast c.params.delay (down (length c.packets)) (unit_of b u).members)
       (list_any (λ (k : CopyPlaces). member (unit_of b u).mpu k.names && is_counted b.cast c.params.delay (down (length c.packets)) k.members (due_of_unit b u)) b.cast.copies)
-      (complete-down b.cast c.params.delay rise (length c.packets) (omega arith) (unit_of b u).members (formed.unit_of_cast u lu))
+      (complete-down b.cast c.params.delay rise (length c.packets) (omega arith) (unit_of b u).members (laid.unit_of_cast u lu))
       (counts u l)
 
   all-expected : expected b c.params.delay (down (length c.packets)) ≡ all_presented programme files
@@ -190,12 +191,9 @@ module _ (programme : Programme) (files : ℕ → List ℕ) (ok : IsSendable pro
       let tuned : tuned_places c programme.full_every (in_order programme) ≡ in_order programme = tuned-in-order c programme.full_every (length c.packets) start.0 start.1 in
       record {
         of = numbers-of c.packets 0 (length c.packets) (omega arith);
-        near = subst (λ (ds : List ℕ). near_of ds) (sym tuned) (near-in-order c.packets rise (length c.packets) (omega arith));
+        near = subst (λ (ds : List ℕ). NearDelivery c.packets ds) (sym tuned) (near-in-order c.packets rise (length c.packets) (omega arith));
         all = ap (λ (ds : List ℕ). expected b c.params.delay (newest_first ds)) tuned ∙ ap (expected b c.params.delay) (down-is (length c.packets)) ∙ all-expected;
       }
-    where
-      abbrev near_of : List ℕ → Type 0
-      near_of ds = NearDelivery c.packets ds
 
 pub whole-casts : WholeCastsAreExpected
 whole-casts = is-whole
