@@ -1,7 +1,8 @@
 -- What `take` gives back, from what it does.
 use Rattle.std.proofs.Common.{◌≡◌, ◌⊎◌, ◌≤◌, inl, inr, ℕ, List, refl, ap, sym, subst, ◌∙◌}
 use Rattle.std.specs.Prelude.{length}
-use Rattle.mmt_command.specs.Commands.{Asks}
+use Rattle.mmt_command.specs.Commands.{Asks, IsCommand}
+use Rattle.mmt_command.specs.Words.{IsWrongAt}
 use Rattle.mmt_command.specs.declared.take_words.TakeOptions.{TakeOptions}
 use Rattle.mmt_command.specs.declared.words.Command.TheVariants as command
 use Rattle.mmt_command.proofs.PeakWords.{asks_once}
@@ -17,7 +18,7 @@ use Rattle.mmt_headline.specs.Taken.{IsCutOff}
 use Rattle.mmt_cli.specs.GivingBack.{GivesBack}
 use Rattle.mmt_cli.specs.Moments.{Moment}
 use Rattle.mmt_cli.specs.Statuses.{status_of}
-use Rattle.mmt_cli.specs.Takes.{Takes}
+use Rattle.mmt_cli.specs.Takes.{Takes, config_of}
 use Rattle.mmt_cli.specs.declared.status.Status.{Status}
 use Rattle.mmt_cli.specs.declared.status.Status.TheVariants as status
 
@@ -65,8 +66,12 @@ given_back law config limit outcome old new takes programme files delivery reach
 
 -- ---- the words of another command are not those of `take`
 
-pub no_list : (options : TakeOptions) (words : List (List ℕ)) → Asks command.List words → Asks (command.Take options) words → ⊥
-no_list options words list take = absurd (asks_once command.List (command.Take options) words list take)
+module _ (options : TakeOptions) (words : List (List ℕ)) (limit : ℕ) (outcome : Status) (old new : Moment) where
+  pub no_list : Asks command.List words → Asks (command.Take options) words → GivesBack (config_of options) limit outcome old new
+  no_list list take = let e : command.List ≡ command.Take options = asks_once command.List (command.Take options) words list take in absurd cc
 
-pub no_peak : (flow : FlowChoice) (params : Params) (options : TakeOptions) (words : List (List ℕ)) → Asks (command.Peak flow params) words → Asks (command.Take options) words → ⊥
-no_peak flow params options words peak take = absurd (asks_once (command.Peak flow params) (command.Take options) words peak take)
+  pub no_peak : (flow : FlowChoice) (params : Params) → Asks (command.Peak flow params) words → Asks (command.Take options) words → GivesBack (config_of options) limit outcome old new
+  no_peak flow params peak take = let e : command.Peak flow params ≡ command.Take options = asks_once (command.Peak flow params) (command.Take options) words peak take in absurd cc
+
+  pub no_command : (index : ℕ) → IsWrongAt IsCommand words index → Asks (command.Take options) words → GivesBack (config_of options) limit outcome old new
+  no_command index wrong take = absurd (wrong.none (command.Take options, take))

@@ -3,7 +3,6 @@ pub mod Tuning
 pub mod Joining
 pub mod Programmes
 pub mod Peaks
-pub mod Names
 pub mod Notes
 pub mod Taken
 pub mod GivesBack

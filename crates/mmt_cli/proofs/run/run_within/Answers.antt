@@ -12,7 +12,7 @@ use Rattle.mmt_command.proofs.Wrong.{wrong_once}
 use Rattle.mmt_cli.specs.GivingBack.{GivesBack}
 use Rattle.mmt_cli.specs.Takes.{Takes, config_of}
 use Rattle.mmt_command.specs.declared.take_words.TakeOptions.{TakeOptions}
-use Rattle.mmt_cli.proofs.GivenBack.{given_back, no_list, no_peak}
+use Rattle.mmt_cli.proofs.GivenBack.{given_back, no_command, no_list, no_peak}
 use Rattle.mmt_cli.proofs.Taken.{has_timescale, has_base, has_bound}
 use Rattle.mmt_cli.proofs.run.run_within.Goals as goal
 
@@ -33,8 +33,10 @@ returns-in-Ok-List-clause-causes g c = λ asked asks.
 
 pub returns-in-Ok-List-clause-gives_back : goal.returns-in-Ok-List-clause-gives_back
 returns-in-Ok-List-clause-gives_back g c = λ told options asks.
+    let old : Moment = moment (g.P.Port.history c.args.port.now) (g.P.Port.left c.args.port.now) (g.P.Port.read_faults c.args.port.now) (g.P.Port.write_faults c.args.port.now) in
+    let new : Moment = moment (g.P.Port.history c.list_within.new.port) (g.P.Port.left c.list_within.new.port) (g.P.Port.read_faults c.list_within.new.port) (g.P.Port.write_faults c.list_within.new.port) in
     let list : Asks command.List (texts c.args.words.now) = subst (λ k. Asks k (texts c.args.words.now)) c.in-Ok-List.field-0-is c.in-Ok-List.ensures.command in
-    absurd (no_list options (texts c.args.words.now) list asks)
+    no_list options (texts c.args.words.now) c.args.limit c.list_within.result old new list asks
 
 pub returns-in-Ok-Peak-clause-promise : goal.returns-in-Ok-Peak-clause-promise
 returns-in-Ok-Peak-clause-promise g c = λ told asked asks.
@@ -53,8 +55,10 @@ returns-in-Ok-Peak-clause-causes g c = λ asked asks.
 
 pub returns-in-Ok-Peak-clause-gives_back : goal.returns-in-Ok-Peak-clause-gives_back
 returns-in-Ok-Peak-clause-gives_back g c = λ told options asks.
+    let old : Moment = moment (g.P.Port.history c.args.port.now) (g.P.Port.left c.args.port.now) (g.P.Port.read_faults c.args.port.now) (g.P.Port.write_faults c.args.port.now) in
+    let new : Moment = moment (g.P.Port.history c.peak_within.new.port) (g.P.Port.left c.peak_within.new.port) (g.P.Port.read_faults c.peak_within.new.port) (g.P.Port.write_faults c.peak_within.new.port) in
     let peak : Asks (command.Peak c.in-Ok-Peak.flow c.in-Ok-Peak.params) (texts c.args.words.now) = subst (λ k. Asks k (texts c.args.words.now)) c.in-Ok-Peak.field-0-is c.in-Ok-Peak.ensures.command in
-    absurd (no_peak c.in-Ok-Peak.flow c.in-Ok-Peak.params options (texts c.args.words.now) peak asks)
+    no_peak options (texts c.args.words.now) c.args.limit c.peak_within.result old new c.in-Ok-Peak.flow c.in-Ok-Peak.params peak asks
 
 pub take_within-requires-clause-bound : goal.take_within-requires-clause-bound
 take_within-requires-clause-bound g c =
@@ -98,3 +102,8 @@ returns-in-Ok-Take-clause-gives_back g c = λ told asked asks.
 
 pub returns-in-Err-clause-only_usage : goal.returns-in-Err-clause-only_usage
 returns-in-Err-clause-only_usage g c = λ index wrong. ap (λ i. status.Usage i) (wrong_once IsCommand (texts c.args.words.now) c.in-Err.index index c.in-Err.ensures.wrong wrong)
+
+pub returns-in-Err-clause-gives_back : goal.returns-in-Err-clause-gives_back
+returns-in-Err-clause-gives_back g c = λ told options asks.
+    let old : Moment = moment (g.P.Port.history c.args.port.now) (g.P.Port.left c.args.port.now) (g.P.Port.read_faults c.args.port.now) (g.P.Port.write_faults c.args.port.now) in
+    no_command options (texts c.args.words.now) c.args.limit (status.Usage c.in-Err.index) old old c.in-Err.index c.in-Err.ensures.wrong asks
