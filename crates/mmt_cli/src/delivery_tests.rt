@@ -196,6 +196,11 @@ fn number(text: Option<&str>) -> Result<u64, Fail> {
     Ok(text.ok_or("no number")?.parse::<u64>().ok().ok_or("number")?)
 }
 
+// A number's low 32 bits.
+fn low(n: u64) -> u32 {
+    (n % 4_294_967_296) as u32
+}
+
 // The bytes of a packet's line.
 fn packet(alloc: Global, line: &str) -> Result<Vec<u8>, Fail> {
     let mut parts = line.split(" ");
@@ -248,10 +253,10 @@ fn add_record(out: &mut Vec<u8>, line: &str) -> Result<(), Fail> {
     out.extend_from_slice(&[0x55, 1, 1, 0])?;
     out.extend_from_slice(&time.to_be_bytes())?;
     for value in [mpu, fragment, sample, 0] {
-        out.extend_from_slice(&(value as u32).to_be_bytes())?;
+        out.extend_from_slice(&low(value).to_be_bytes())?;
     }
     out.extend_from_slice(&[0, 0])?;
-    out.extend_from_slice(&(length as u32).to_be_bytes())?;
+    out.extend_from_slice(&low(length).to_be_bytes())?;
     Ok(add_file(out, from, length)?)
 }
 
