@@ -1,5 +1,5 @@
 -- What `take` gives back of a near delivery.
-use Rattle.std.proofs.Common.{◌≡◌, ◌⊎◌, inl, inr, ℕ, List, ◌++◌, refl, ap, sym, subst, ◌∙◌}
+use Rattle.std.proofs.Common.{◌≡◌, ℕ, List, ◌++◌, refl, ap, sym, subst, ◌∙◌}
 use Rattle.std.proofs.lemmas.List.{append_cancel_left}
 use Rattle.mmt_io.specs.History.{Event, bytes_noted}
 use Rattle.mmt_model.specs.declared.programmes.Programme.{Programme}

@@ -1,15 +1,14 @@
 -- Each packet of a cast once and in its order: what is near, survives and counts.
-use Rattle.std.proofs.Common.{◌≡◌, ◌⊎◌, inl, inr, ℕ, zero, suc, ◌+◌, ◌%◌, ◌<◌, ◌≤◌, Bool, true, false, not, ◌&&◌, ◌||◌, ◌==◌, nat_lt, nat_le, cond, max, min, List, [], ◌∷◌, ◌++◌, map, length, get_or, Option, Some, None, arith, refl, ap, ap₂, sym, subst, ◌∙◌, ⊎_elim, le_refl}
-use Rattle.std.specs.List.{AllByRecursion, filter, list_all, list_any}
+use Rattle.std.proofs.Common.{◌≡◌, ◌⊎◌, inl, inr, ℕ, zero, suc, ◌+◌, ◌%◌, ◌<◌, ◌≤◌, Bool, true, false, not, ◌&&◌, ◌||◌, ◌==◌, nat_lt, nat_le, cond, max, min, List, [], ◌∷◌, ◌++◌, length, get_or, Option, Some, None, arith, refl, ap, ap₂, sym, subst, ◌∙◌, ⊎_elim, le_refl}
+use Rattle.std.specs.List.{AllByRecursion, filter, list_all}
 use Rattle.std.proofs.lemmas.Bool.{cases_eq, cases_lt, eq-eqb, eqb-true, and_from, and_parts, ltb-true, leb-true, lt-ltb, le-ltb, or_right}
-use Rattle.std.proofs.lemmas.Bool.Decides.{nat_tests}
 use Rattle.mmt_cast.proofs.Listing.{each-append, each-weaker}
 use Rattle.mmt_model.proofs.Newest.{newest_more}
-use Rattle.mmt_model.specs.Admission.{Fault, fault, fault_of_copy, fault_of_gap, fault_of_key, fault_of_live, fault_of_load, fault_of_mpu, fault_of_number, fault_of_params, fault_of_start, fault_of_unit, first_below, first_parameters, has_parameters, or_else, unless}
+use Rattle.mmt_model.specs.Admission.{Fault, fault, fault_of_copy, fault_of_gap, fault_of_key, fault_of_live, fault_of_load, fault_of_number, fault_of_params, fault_of_start, fault_of_unit, first_below, first_parameters, has_parameters, or_else, unless}
 use Rattle.mmt_model.specs.Broadcast.{NamedCast}
 use Rattle.mmt_model.specs.Carrying.{last_of_places, least_with, named_from_of, no_table_copy, numbers}
 use Rattle.mmt_model.specs.Counts.{member}
-use Rattle.mmt_model.specs.Delivery.{NearAfter, NearDelivery, from_first, from_heard, newest_first, onto, reach}
+use Rattle.mmt_model.specs.Delivery.{NearAfter, NearDelivery, from_first, from_heard, newest_first, onto}
 use Rattle.mmt_model.specs.Expected.{is_complete, is_counted, places}
 use Rattle.mmt_model.specs.Received.{tuned_places, tunes_at}
 use Rattle.mmt_model.specs.Survival.{AreOf, is_overtaken, no_packet, sent_at, survives}
@@ -223,7 +222,7 @@ counted-down cast delay due ms rise some of early =
     let below : g < length packets = top-below ms (length packets) (by-some ms some of) of in
     let last = top-last packets ms some in
     let here : is_counted cast delay (down (suc g)) ms due ≡ true = and-or (is_complete cast delay (g ∷ down g) ms) (list_all (λ (k : ℕ). nat_lt (sent_at packets k) due) (g ∷ down g)) (is_counted cast delay (down g) ms due)
-      (complete-down cast delay rise (suc g) (omega (arith, below)) ms (top-over ms g (le_refl g))) (all-before packets due g rise below (omega (arith, last, early)) (suc g) (le_refl (suc g))) in
+    (complete-down cast delay rise (suc g) (omega (arith, below)) ms (top-over ms g (le_refl g))) (all-before packets due g rise below (omega (arith, last, early)) (suc g) (le_refl (suc g))) in
     counted-on cast delay due ms (suc g) (length packets) (omega (arith, below)) here
   where
     by-some : (ns : List ℕ) → 0 < length ns → AllByRecursion (λ (k : ℕ). k < length cast.packets.sent) ns → 0 < length cast.packets.sent

@@ -12,7 +12,7 @@ use Rattle.mmt_cast.proofs.Theorem.{cast-right}
 use Rattle.mmt_delivery.specs.Laws.{IsReceiver}
 use Rattle.mmt_delivery.specs.Tables.{IsAmong, IsOfCopy, MessagesAreSent, NamesAreLearned}
 use Rattle.mmt_delivery.proofs.Carried.{signal-is}
-use Rattle.mmt_sent.specs.Messages.{message_of_signal, message_bytes}
+use Rattle.mmt_sent.specs.Messages.{message_bytes}
 use Rattle.mmt_model.specs.Admission.{fault}
 use Rattle.mmt_model.specs.Broadcast.{no_entry}
 use Rattle.mmt_model.specs.Carrying.{Contents, IsCastOf, IsInItsPlace, copy_place, numbers, packets_of, payload_carried, role, table_copy}

@@ -1,33 +1,31 @@
 -- Where each packet comes once and in its order, all units are expected.
-use Rattle.std.proofs.Common.{◌≡◌, ◌⊎◌, inl, inr, ℕ, zero, suc, ◌+◌, ◌<◌, ◌≤◌, Bool, true, false, ◌&&◌, ◌||◌, ◌==◌, nat_lt, cond, min, List, [], ◌∷◌, map, length, get_or, Option, Some, None, arith, refl, ap, sym, subst, ◌∙◌}
+use Rattle.std.proofs.Common.{◌≡◌, inl, inr, ℕ, zero, suc, ◌+◌, ◌<◌, ◌≤◌, Bool, true, false, ◌&&◌, ◌==◌, nat_lt, cond, List, [], ◌∷◌, map, length, get_or, Option, Some, None, arith, refl, ap, sym, subst, ◌∙◌}
 use Rattle.std.specs.List.{AllByRecursion, filter, list_any}
 use Rattle.std.proofs.lemmas.Bool.{and_from, eq-eqb, ltb-true, or_right}
 use Rattle.mmt_base.specs.Ticks.{due_of}
 use Rattle.mmt_base.specs.declared.ticks.LongTick.{LongTick}
 use Rattle.mmt_cast.proofs.Listing.{IsIn, each-at, each-weaker, in-at}
-use Rattle.mmt_cast.proofs.Reading.{entry-of-unit, length-mpus, length-units, mpu-of, mpu-sent, placed-unit, unit-sent}
+use Rattle.mmt_cast.proofs.Reading.{entry-of-unit, length-mpus, length-units, mpu-of, mpu-sent, placed-unit}
 use Rattle.mmt_cast.specs.Casting.{cast_of, due_of_placed, least, mpu_as_sent, time_of_unit}
 use Rattle.mmt_cast.specs.Placing.{PlacedUnit, all_units, entry_of_mpu}
-use Rattle.mmt_cast.specs.Right.{contents_of, mpu_at, no_placed_unit, unit_at, unit_bytes}
+use Rattle.mmt_cast.specs.Right.{contents_of, mpu_at, no_placed_unit, unit_at}
 use Rattle.mmt_delivery.proofs.Admitted.{IsWellFormed}
 use Rattle.mmt_delivery.proofs.Carried.{copies-many, entry-at, formed, get-map, unit-at, units-many}
 use Rattle.mmt_delivery.proofs.Admitting.{apart}
 use Rattle.mmt_delivery.proofs.Faultless.{IsFaultless, admitted, faultless}
 use Rattle.mmt_delivery.proofs.Laid.{no_copy}
-use Rattle.mmt_model.specs.Admission.{fault_of_mpu, fault_of_naming, has_parameters}
+use Rattle.mmt_model.specs.Admission.{fault_of_mpu, fault_of_naming}
 use Rattle.mmt_model.specs.Broadcast.{Broadcast, CopyPlaces, due_of_unit, entry_of, presentation_of, unit_of}
-use Rattle.mmt_model.specs.Carrying.{Contents, IsCastOf, broadcast_of, copy_places, entry_of_unit, last_of_places, mpu_of, named_from_of, no_table_copy, numbers, places_of_copy, sent_mpu, table_copy, tick_of, unit_places, unit_sent}
+use Rattle.mmt_model.specs.Carrying.{Contents, IsCastOf, broadcast_of, copy_places, entry_of_unit, last_of_places, mpu_of, no_table_copy, places_of_copy, sent_mpu, table_copy, tick_of, unit_places, unit_sent}
 use Rattle.mmt_model.specs.Counts.{member}
 use Rattle.mmt_model.specs.Delivery.{NearDelivery, newest_first}
 use Rattle.mmt_model.specs.Entries.{Entry}
 use Rattle.mmt_model.specs.Expected.{expected, is_complete, is_counted, is_expected, places}
 use Rattle.mmt_model.specs.Handing.{is_presented_before, time_for, time_of}
-use Rattle.mmt_model.specs.Received.{IsNear, expected_in, tuned_places}
+use Rattle.mmt_model.specs.Received.{expected_in, tuned_places}
 use Rattle.mmt_model.specs.Sorted.{sort_by}
-use Rattle.mmt_model.specs.Survival.{AreOf, no_packet}
 use Rattle.mmt_model.specs.declared.casts.Cast.{Cast}
 use Rattle.mmt_model.specs.declared.casts.SentMpu.{SentMpu}
-use Rattle.mmt_model.specs.declared.casts.TableCopy.{TableCopy}
 use Rattle.mmt_model.specs.declared.programmes.Programme.{Programme}
 use Rattle.mmt_naming.specs.Findings.{names_in}
 use Rattle.mmt_output.specs.Records.{records}
@@ -37,7 +35,7 @@ use Rattle.mmt_headline.proofs.InOrder.{IsNamedAt, Rise, complete-down, counted-
 use Rattle.mmt_headline.proofs.Sound.{casts-carry}
 use Rattle.mmt_headline.specs.GivesBack.{TakeGivesBack}
 use Rattle.mmt_headline.specs.Programmes.{IsSendable}
-use Rattle.mmt_headline.specs.WholeCasts.{IsPresented, IsWhole, TakeGivesAllBack, UnitsArePresented, WholeCastsAreExpected, all_presented, in_order, presentation_at}
+use Rattle.mmt_headline.specs.WholeCasts.{IsWhole, TakeGivesAllBack, UnitsArePresented, WholeCastsAreExpected, all_presented, in_order}
 
 -- ---- a unit as it is presented
 

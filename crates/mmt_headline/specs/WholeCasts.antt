@@ -3,7 +3,7 @@ use Rattle.std.specs.Prelude.{◌≡◌, ◌⊎◌, ℕ, ◌<◌, ◌≤◌, Lis
 use Rattle.mmt_cast.specs.Casting.{cast_of, time_of_unit}
 use Rattle.mmt_cast.specs.Placing.{PlacedUnit, all_units}
 use Rattle.mmt_cast.specs.Right.{unit_at, unit_bytes}
-use Rattle.mmt_io.specs.History.{Event, bytes_noted, bytes_written}
+use Rattle.mmt_io.specs.History.{Event, bytes_written}
 use Rattle.mmt_io.specs.Port.{Rose}
 use Rattle.mmt_model.specs.Broadcast.{presentation_of}
 use Rattle.mmt_model.specs.Carrying.{broadcast_of, numbers}
@@ -20,7 +20,6 @@ use Rattle.mmt_stream.specs.declared.end.StreamEnd.{StreamEnd}
 use Rattle.mmt_take.specs.Taking.{taking}
 use Rattle.mmt_tlv.specs.Framing.{joined}
 use Rattle.mmt_tune.specs.declared.config.Config.{Config}
-use Rattle.mmt_headline.specs.GivesBack.{IsGivenBack}
 use Rattle.mmt_headline.specs.Programmes.{IsSendable, Receives}
 use Rattle.mmt_headline.specs.Taken.{expected_of}
 use Rattle.mmt_stream.specs.declared.end.StreamEnd.TheVariants as end
