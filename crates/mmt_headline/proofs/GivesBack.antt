@@ -1,5 +1,5 @@
 -- What `take` gives back of a near delivery.
-use Rattle.std.proofs.Common.{◌≡◌, ◌⊎◌, inl, inr, ℕ, List, ◌++◌, ap, sym, subst, ◌∙◌}
+use Rattle.std.proofs.Common.{◌≡◌, ℕ, List, ◌++◌, refl, ap, sym, subst, ◌∙◌}
 use Rattle.std.proofs.lemmas.List.{append_cancel_left}
 use Rattle.mmt_io.specs.History.{Event, bytes_noted}
 use Rattle.mmt_model.specs.declared.programmes.Programme.{Programme}
@@ -15,13 +15,14 @@ use Rattle.mmt_headline.proofs.Framed.{streams-framed}
 use Rattle.mmt_headline.specs.GivesBack.{NotesQuietly, TakeGivesBack}
 use Rattle.mmt_headline.specs.Taken.{HasTaken, TakesAStart, TakesDelivery, placed_of}
 
-quietly : (config : Config) (programme : Programme) (files : ℕ → List ℕ) (delivery : List ℕ) (events : List Event) → HasTaken config programme files delivery events → NotesQuietly programme files delivery (bytes_noted events)
+quietly : (config : Config) (programme : Programme) (files : ℕ → List ℕ) (delivery : List ℕ) (events : List Event) → HasTaken config programme files delivery events → NotesQuietly config programme files delivery (bytes_noted events)
 quietly config programme files delivery events t =
     record {
       notes = t.quiet.0;
       last = summary_of config (placed_of programme files delivery);
       lines = t.notes ∙ ap (λ (xs : List ℕ). xs ++ line_of (summary_of config (placed_of programme files delivery))) t.quiet.2;
       quiet = t.quiet.1;
+      counted = refl;
       units = t.units;
       bytes = t.bytes;
       peak = t.peak;

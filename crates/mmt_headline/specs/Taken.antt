@@ -1,5 +1,5 @@
 -- What `take` writes of a delivery of the cast of a programme.
-use Rattle.std.specs.Prelude.{◌≡◌, ◌⊎◌, ℕ, ◌≤◌, List, [], ◌++◌, length}
+use Rattle.std.specs.Prelude.{◌≡◌, ◌⊎◌, ℕ, ◌≤◌, List, ◌++◌, length}
 use Rattle.mmt_cast.specs.Casting.{cast_of}
 use Rattle.mmt_io.specs.History.{Event, bytes_noted, bytes_written}
 use Rattle.mmt_model.specs.Delivery.{newest_first}
