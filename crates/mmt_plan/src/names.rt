@@ -34,11 +34,13 @@ impl FileNames {
         }
     }
 
-    /// The number of a file by its name. A new name goes last. It is refused for want of memory alone.
+    /// The number of a file by its name. A new name goes last. It is refused for want of memory alone; then
+    /// the names are as they were.
     pub fn number_of(&mut self, alloc: Global, name: &str) -> Result<u32, OutOfMemory>
         requires { length self.old < 2 ^ 32 }
         ensures number { IfOk result (λ n. n ≡ place_of name.now self.old) }
         ensures names { OnOk result (self.new ≡ with_name name.now self.old) }
+        ensures refused { OnErr result (self.new ≡ self.old) }
         ensures within { IfOk result (λ n. n < length self.new) }
     {
         let Ok(name) = String::from_str(alloc, name) else {
