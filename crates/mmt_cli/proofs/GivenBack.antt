@@ -53,7 +53,7 @@ status_done e (inr is) = inr (ap status_of is)
 pub given_back : TakeGivesBack → (config : Config) (limit : ℕ) (outcome : Status) (old new : Moment) → Takes config limit outcome old new → GivesBack config limit outcome old new
 given_back law config limit outcome old new takes programme files delivery reached is =
     let g = law config programme files delivery reached limit takes.end old.history new.history new.left old.reads new.reads old.writes new.writes
-      (subst (λ (l : List ℕ). Does (taking config) limit takes.end old.history new.history l new.left old.reads new.reads old.writes new.writes) is takes.does) in
+    (subst (λ (l : List ℕ). Does (taking config) limit takes.end old.history new.history l new.left old.reads new.reads old.writes new.writes) is takes.does) in
     record {
       events = g.0;
       history = g.1;
@@ -61,7 +61,7 @@ given_back law config limit outcome old new takes programme files delivery reach
       noted = λ e. g.2.noted (done_end takes.end (sym takes.told ∙ e));
       begun = λ cut. g.2.begun (cut_end takes.end (subst (λ (s : Status). (s ≡ status.WriteFault) ⊎ (s ≡ status.OutOfMemory)) takes.told cut));
       done = λ short none. subst (λ (s : Status). (s ≡ status.Done) ⊎ (s ≡ status.OutOfMemory)) (sym takes.told)
-        (status_done takes.end (g.3 (subst (λ (l : List ℕ). length l ≤ limit) is short) none.0 none.1));
+          (status_done takes.end (g.3 (subst (λ (l : List ℕ). length l ≤ limit) is short) none.0 none.1));
     }
 
 -- ---- the words of another command are not those of `take`

@@ -193,7 +193,12 @@ fn digit(glyph: u8) -> Option<u8> {
 
 // A number in decimal digits.
 fn number(text: Option<&str>) -> Result<u64, Fail> {
-    Ok(text.ok_or("no number")?.parse::<u64>().ok().ok_or("number")?)
+    Ok(
+        text.ok_or("no number")?
+            .parse::<u64>()
+            .ok()
+            .ok_or("number")?,
+    )
 }
 
 // A number's low 32 bits.
@@ -286,9 +291,11 @@ fn gives_back(alloc: Global, input: Vec<u8>, units: &str, notes: &str) -> Result
         lines.push(b'\n')?;
     }
     let records = records(alloc, units)?;
-    Ok(status == Status::Done
-        && port.written() == records.as_slice()
-        && port.noted() == lines.as_slice())
+    Ok(
+        status == Status::Done
+            && port.written() == records.as_slice()
+            && port.noted() == lines.as_slice(),
+    )
 }
 
 // The first row of a table that is wrong, or no text. A row is `PLACES @ UNITS @ NOTES`.
