@@ -14,7 +14,6 @@ use Rattle.mmt_stream.specs.declared.end.StreamEnd.TheVariants as end
 use Rattle.mmt_take.specs.Taking.{taking}
 use Rattle.mmt_tune.specs.declared.config.Config.{Config}
 use Rattle.mmt_headline.specs.GivesBack.{TakeGivesBack}
-use Rattle.mmt_headline.specs.Taken.{IsCutOff}
 use Rattle.mmt_cli.specs.GivingBack.{GivesBack}
 use Rattle.mmt_cli.specs.Moments.{Moment}
 use Rattle.mmt_cli.specs.Statuses.{status_of}
@@ -32,18 +31,6 @@ done_end (end.Broken kind place) is = absurd cc
 done_end end.OutOfMemory is = absurd cc
 done_end end.TooLong is = absurd cc
 
-cut_end : (e : StreamEnd) → (status_of e ≡ status.WriteFault) ⊎ (status_of e ≡ status.OutOfMemory) → IsCutOff e
-cut_end end.Done (inl is) = absurd cc
-cut_end end.Done (inr is) = absurd cc
-cut_end end.ReadFault (inl is) = absurd cc
-cut_end end.ReadFault (inr is) = absurd cc
-cut_end end.WriteFault is = inl refl
-cut_end (end.Broken kind place) (inl is) = absurd cc
-cut_end (end.Broken kind place) (inr is) = absurd cc
-cut_end end.OutOfMemory is = inr refl
-cut_end end.TooLong (inl is) = absurd cc
-cut_end end.TooLong (inr is) = absurd cc
-
 status_done : (e : StreamEnd) → (e ≡ end.Done) ⊎ (e ≡ end.OutOfMemory) → (status_of e ≡ status.Done) ⊎ (status_of e ≡ status.OutOfMemory)
 status_done e (inl is) = inl (ap status_of is)
 status_done e (inr is) = inr (ap status_of is)
@@ -53,15 +40,18 @@ status_done e (inr is) = inr (ap status_of is)
 pub given_back : TakeGivesBack → (config : Config) (limit : ℕ) (outcome : Status) (old new : Moment) → Takes config limit outcome old new → GivesBack config limit outcome old new
 given_back law config limit outcome old new takes programme files delivery reached is =
     let g = law config programme files delivery reached limit takes.end old.history new.history new.left old.reads new.reads old.writes new.writes
-      (subst (λ (l : List ℕ). Does (taking config) limit takes.end old.history new.history l new.left old.reads new.reads old.writes new.writes) is takes.does) in
+    (subst (λ (l : List ℕ). Does (taking config) limit takes.end old.history new.history l new.left old.reads new.reads old.writes new.writes) is takes.does) in
     record {
       events = g.0;
       history = g.1;
+      notes = g.2.notes;
+      quiet = g.2.quiet;
       written = λ e. g.2.written (done_end takes.end (sym takes.told ∙ e));
       noted = λ e. g.2.noted (done_end takes.end (sym takes.told ∙ e));
-      begun = λ cut. g.2.begun (cut_end takes.end (subst (λ (s : Status). (s ≡ status.WriteFault) ⊎ (s ≡ status.OutOfMemory)) takes.told cut));
+      writing = g.2.writing;
+      noting = g.2.noting;
       done = λ short none. subst (λ (s : Status). (s ≡ status.Done) ⊎ (s ≡ status.OutOfMemory)) (sym takes.told)
-        (status_done takes.end (g.3 (subst (λ (l : List ℕ). length l ≤ limit) is short) none.0 none.1));
+          (status_done takes.end (g.3 (subst (λ (l : List ℕ). length l ≤ limit) is short) none.0 none.1));
     }
 
 -- ---- the words of another command are not those of `take`

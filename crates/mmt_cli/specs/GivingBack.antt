@@ -18,13 +18,16 @@ use Rattle.mmt_cli.specs.declared.status.Status.TheVariants as status
 abbrev pub HasNoFault : Moment → Moment → Type 0
 HasNoFault old new = (Rose old.reads new.reads → ⊥) × (Rose old.writes new.writes → ⊥)
 
--- Of a delivery exactly the records of the expected units were written, in the order in which they are handed out, and the notes are quiet; where a write failed or memory ran out, a prefix of them was written; and where no call failed and the limit is not below the input's bytes, the run is done, unless memory ran out (this project's rule).
+-- Of a delivery a run that is done wrote exactly the records of the expected units, in the order in which they are handed out, and noted quietly; a run that ends in any way wrote and noted a prefix of these; and where no call failed and the limit is not below the input's bytes, the run is done, unless memory ran out (this project's rule).
 pub record GaveBack (config : Config) (programme : Programme) (files : ℕ → List ℕ) (delivery : List ℕ) (limit : ℕ) (outcome : Status) (old new : Moment) : Type 0 where
   pub events : List Event
   pub history : new.history ≡ old.history ++ events
+  pub notes : List ℕ
+  pub quiet : NotesQuietly config programme files delivery notes
   pub written : outcome ≡ status.Done → bytes_written events ≡ records (expected_of programme files delivery)
-  pub noted : outcome ≡ status.Done → NotesQuietly config programme files delivery (bytes_noted events)
-  pub begun : (outcome ≡ status.WriteFault) ⊎ (outcome ≡ status.OutOfMemory) → IsPrefix (bytes_written events) (records (expected_of programme files delivery))
+  pub noted : outcome ≡ status.Done → bytes_noted events ≡ notes
+  pub writing : IsPrefix (bytes_written events) (records (expected_of programme files delivery))
+  pub noting : IsPrefix (bytes_noted events) notes
   pub done : length old.left ≤ limit → HasNoFault old new → (outcome ≡ status.Done) ⊎ (outcome ≡ status.OutOfMemory)
 
 -- so it is of every near delivery, whose bytes are the input, of a programme that can be sent and that the receiver hears

@@ -126,6 +126,7 @@ const WITH_ONE_MORE_TABLE: &str = "\
 // The same over 18 hours, where packets that stand side by side change places.
 const OVER_HOURS: &str = "\
 0-15 @ 0 1 2 @ units 3 bytes 4000 peak 3689\n\
+13-15 @ none @ 4 ctx-none 1, 42 ctx-none 1, units 0 bytes 0 peak 0\n\
 1-15 @ 2 @ 4 ctx-none 1, 105 ctx-none 1, units 1 bytes 500 peak 619\n\
 0 2-15 @ 2 @ units 1 bytes 500 peak 3607\n\
 0 1 3-15 @ 1 2 @ units 2 bytes 1000 peak 2267\n\
@@ -174,6 +175,9 @@ const OVER_HOURS: &str = "\
 0-12 14 13 15 @ 0 1 2 @ units 3 bytes 4000 peak 3689\n\
 0-13 15 14 @ 0 1 2 @ units 3 bytes 4000 peak 3689";
 
+// A delivery over 18 hours that is not near, of which more is kept at once than the 4,000 bytes that are signalled.
+const NOT_NEAR: &str = "0-5 14 15 @ 0 1 2 @ units 3 bytes 4000 peak 4289";
+
 // Adds so many bytes of the plans' file from a place on, of which the one at p is p modulo 251.
 fn add_file(out: &mut Vec<u8>, from: u64, length: u64) -> Result<(), AllocError> {
     for place in 0..length {
@@ -193,7 +197,12 @@ fn digit(glyph: u8) -> Option<u8> {
 
 // A number in decimal digits.
 fn number(text: Option<&str>) -> Result<u64, Fail> {
-    Ok(text.ok_or("no number")?.parse::<u64>().ok().ok_or("number")?)
+    Ok(
+        text.ok_or("no number")?
+            .parse::<u64>()
+            .ok()
+            .ok_or("number")?,
+    )
 }
 
 // A number's low 32 bits.
@@ -286,9 +295,11 @@ fn gives_back(alloc: Global, input: Vec<u8>, units: &str, notes: &str) -> Result
         lines.push(b'\n')?;
     }
     let records = records(alloc, units)?;
-    Ok(status == Status::Done
-        && port.written() == records.as_slice()
-        && port.noted() == lines.as_slice())
+    Ok(
+        status == Status::Done
+            && port.written() == records.as_slice()
+            && port.noted() == lines.as_slice(),
+    )
 }
 
 // The first row of a table that is wrong, or no text. A row is `PLACES @ UNITS @ NOTES`.
@@ -322,5 +333,14 @@ fn gives_back_what_is_expected_with_one_more_table(rt: HostRuntime) -> Result<()
 fn gives_back_what_is_expected_over_hours(rt: HostRuntime) -> Result<(), Fail> {
     let texts = [PACKETS, HOURS_LATER];
     assert_eq!(rt; wrong_row(rt.alloc(), &texts, OVER_HOURS)?, "");
+    Ok(())
+}
+
+#[test]
+fn keeps_more_than_is_signalled_of_a_delivery_that_is_not_near(
+    rt: HostRuntime,
+) -> Result<(), Fail> {
+    let texts = [PACKETS, HOURS_LATER];
+    assert_eq!(rt; wrong_row(rt.alloc(), &texts, NOT_NEAR)?, "");
     Ok(())
 }

@@ -28,7 +28,9 @@ use Rattle.mmt_model.specs.declared.casts.Cast.{Cast}
 use Rattle.mmt_model.specs.declared.casts.SentMpu.{SentMpu}
 use Rattle.mmt_model.specs.declared.programmes.Programme.{Programme}
 use Rattle.mmt_naming.specs.Findings.{names_in}
+use Rattle.mmt_io.specs.History.{bytes_written}
 use Rattle.mmt_output.specs.Records.{records}
+use Rattle.mmt_stream.specs.Output.{IsPrefix}
 use Rattle.mmt_sent.specs.Messages.{message_bytes}
 use Rattle.mmt_sent.specs.Stream.{contents_sent, stream}
 use Rattle.mmt_headline.proofs.InOrder.{IsNamedAt, Rise, complete-down, counted-down, down, down-is, filter-all, named-at, near-in-order, none-unless, numbers-of, places-below, rise-of, start-of, starts, tuned-in-order}
@@ -203,4 +205,4 @@ unfolding stream
 gives-all law whole config programme files limit outcome old new unread reads reads' writes writes' ok r does =
     let w = whole programme files ok in
     let g = law config programme files (in_order programme) (record { sendable = ok; receives = r; of = w.of; near = w.near }) limit outcome old new unread reads reads' writes writes' does in
-    (g.0, g.1, λ e. g.2.written e ∙ ap records w.all, g.3)
+    (g.0, g.1, λ e. g.2.written e ∙ ap records w.all, subst (IsPrefix (bytes_written g.0)) (ap records w.all) g.2.writing, g.3)

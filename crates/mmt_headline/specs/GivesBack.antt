@@ -19,7 +19,7 @@ use Rattle.mmt_tlv.specs.Framing.{joined}
 use Rattle.mmt_tune.specs.declared.config.Config.{Config}
 use Rattle.mmt_headline.specs.Notes.{AreQuiet}
 use Rattle.mmt_headline.specs.Programmes.{IsSendable, Receives}
-use Rattle.mmt_headline.specs.Taken.{IsCutOff, expected_of, placed_of}
+use Rattle.mmt_headline.specs.Taken.{expected_of, placed_of}
 use Rattle.mmt_stream.specs.declared.end.StreamEnd.TheVariants as end
 
 -- a near delivery of the cast of a programme that can be sent, and a receiver of the programme
@@ -41,11 +41,14 @@ pub record NotesQuietly (config : Config) (programme : Programme) (files : ℕ �
   pub peak : last.peak ≤ programme.params.bound
   pub full : last.full ≡ 0
 
--- a run that is done wrote exactly the records of the expected units and noted quietly, and one that a failed write or want of memory ended wrote a prefix of them
+-- a run that is done wrote exactly the records of the expected units and noted quietly, and one that ends in any way wrote and noted a prefix of these
 pub record IsGivenBack (config : Config) (programme : Programme) (files : ℕ → List ℕ) (delivery : List ℕ) (outcome : StreamEnd) (events : List Event) : Type 0 where
+  pub notes : List ℕ
+  pub quiet : NotesQuietly config programme files delivery notes
   pub written : outcome ≡ end.Done → bytes_written events ≡ records (expected_of programme files delivery)
-  pub noted : outcome ≡ end.Done → NotesQuietly config programme files delivery (bytes_noted events)
-  pub begun : IsCutOff outcome → IsPrefix (bytes_written events) (records (expected_of programme files delivery))
+  pub noted : outcome ≡ end.Done → bytes_noted events ≡ notes
+  pub writing : IsPrefix (bytes_written events) (records (expected_of programme files delivery))
+  pub noting : IsPrefix (bytes_noted events) notes
 
 -- `take` over the bytes of the delivery gives back the programme; where no call of the port failed, and the limit is not below the bytes, it is done, unless memory ran out
 abbrev pub GivesBack : Config → Programme → (ℕ → List ℕ) → List ℕ → Type 0

@@ -15,6 +15,7 @@ use Rattle.mmt_model.specs.Survival.{AreOf}
 use Rattle.mmt_model.specs.declared.programmes.Programme.{Programme}
 use Rattle.mmt_output.specs.Records.{records}
 use Rattle.mmt_sent.specs.Stream.{contents_sent, stream}
+use Rattle.mmt_stream.specs.Output.{IsPrefix}
 use Rattle.mmt_stream.specs.Streaming.{Does}
 use Rattle.mmt_stream.specs.declared.end.StreamEnd.{StreamEnd}
 use Rattle.mmt_take.specs.Taking.{taking}
@@ -59,10 +60,11 @@ pub record IsWhole (programme : Programme) (files : ℕ → List ℕ) : Type 0 w
 abbrev pub WholeCastsAreExpected : Type 0
 WholeCastsAreExpected = (programme : Programme) (files : ℕ → List ℕ) → IsSendable programme files → IsWhole programme files
 
--- `take` over the stream of a programme: done, it wrote exactly the records of all units of the programme; and it is done where no call of the port failed and the limit is not below the bytes, unless memory ran out
+-- `take` over the stream of a programme: done, it wrote exactly the records of all units of the programme; ended in any way, a prefix of them; and it is done where no call of the port failed and the limit is not below the bytes, unless memory ran out
 abbrev pub TakeGivesAllBack : Type 0
 TakeGivesAllBack =
     (config : Config) (programme : Programme) (files : ℕ → List ℕ) (limit : ℕ) (outcome : StreamEnd) (old new : List Event) (unread : List ℕ) (reads reads' writes writes' : ℕ)
     → IsSendable programme files → Receives config programme → Does (taking config) limit outcome old new (joined (stream programme files)) unread reads reads' writes writes'
     → (events : List Event) × (new ≡ old ++ events) × (outcome ≡ end.Done → bytes_written events ≡ records (all_presented programme files))
+    × IsPrefix (bytes_written events) (records (all_presented programme files))
     × (length (joined (stream programme files)) ≤ limit → (Rose reads reads' → ⊥) → (Rose writes writes' → ⊥) → (outcome ≡ end.Done) ⊎ (outcome ≡ end.OutOfMemory))

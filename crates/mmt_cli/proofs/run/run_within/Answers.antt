@@ -98,7 +98,7 @@ returns-in-Ok-Take-clause-gives_back g c = λ told asked asks.
     let take : Asks (command.Take c.in-Ok-Take.options) (texts c.args.words.now) = subst (λ k. Asks k (texts c.args.words.now)) c.in-Ok-Take.field-0-is c.in-Ok-Take.ensures.command in
     subst (λ (o : TakeOptions). GivesBack (config_of o) c.args.limit c.take_within.result old new) (take_once c.in-Ok-Take.options asked (texts c.args.words.now) take asks)
     (given_back c.take_gives_back.ensures (config_of c.in-Ok-Take.options) c.args.limit c.take_within.result old new
-      (subst (λ (k : Config). Takes k c.args.limit c.take_within.result old new) c.configured.ensures (c.take_within.ensures.takes told)))
+    (subst (λ (k : Config). Takes k c.args.limit c.take_within.result old new) c.configured.ensures (c.take_within.ensures.takes told)))
 
 pub returns-in-Err-clause-only_usage : goal.returns-in-Err-clause-only_usage
 returns-in-Err-clause-only_usage g c = λ index wrong. ap (λ i. status.Usage i) (wrong_once IsCommand (texts c.args.words.now) c.in-Err.index index c.in-Err.ensures.wrong wrong)
