@@ -36,12 +36,18 @@ const HOURS_LATER: &str = "\
 7f03005d001e610002000003e800640000000a00000000000000004501200100402001003cfc0270310000010000000000017668657631fe01000100002300010c00000008000103e880000000802611fd0000ea60000000083f03e90103e903e9 0 0\n\
 7f030243001f6060000000114020010db8000000000000000000000001ff0e0000000000000000000000000101c864c8640100010003e800c80000000402082800000000080000000200000001000000000000 0 500";
 
+// The messages of a plan with one unit of 16,777,216 bytes.
+const LONG_UNIT_MESSAGES: &str = "\
+7f03004c00106060000000114020010db8000000000000000000000001ff0e0000000000000000000000000101c864c8640002000003e80000000000000000f10000000c01312d0000010000000003e8 0 0\n\
+7f03005d0011610002000003e800640000000100000000000000004501200000402000003cfc0270310000010000000000017668657631fe01000100002300010c00000007000003e880000000802611fd0000ea60000000073f03e90103e903e9 0 0";
+
 // The units of these plans, one a line: the number of the MPU, the movie fragment and the sample, the time, and
 // the place and the length in the file.
 const UNITS: &str = "\
 7 1 1 4297114779648 0 3000\n\
 7 1 2 4297258088390 3000 500\n\
-8 2 1 285772091490304 0 500";
+8 2 1 285772091490304 0 500\n\
+7 1 1 4297114779648 0 16777216";
 
 // Deliveries of the worked plan: the packets in their order, the units that are expected in the order of
 // handing out, and the notes. Each packet is lost, each comes twice, each two change places; and others.
@@ -178,10 +184,33 @@ const OVER_HOURS: &str = "\
 // A delivery over 18 hours that is not near, of which more is kept at once than the 4,000 bytes that are signalled.
 const NOT_NEAR: &str = "0-5 14 15 @ 0 1 2 @ units 3 bytes 4000 peak 4289";
 
-// Adds so many bytes of the plans' file from a place on, of which the one at p is p modulo 251.
-fn add_file(out: &mut Vec<u8>, from: u64, length: u64) -> Result<(), AllocError> {
-    for place in 0..length {
-        out.push((from.saturating_add(place) % 251) as u8)?;
+// The full header of these packets: compressed IPv6 and UDP, from the source to the flow.
+const FULL_HEADER: &str =
+    "6060000000114020010db8000000000000000000000001ff0e0000000000000000000000000101c864c864";
+
+// The same of a long unit in 280 parts: a part in the middle is lost, and two that are 1,000 ticks apart, the
+// plan's delay, change places.
+const OF_A_LONG_UNIT: &str = "\
+0-140 142-281 @ none @ units 0 bytes 0 peak 16723451\n\
+0-99 200 101-199 100 201-281 @ 3 @ units 1 bytes 16777216 peak 16783473";
+
+// The first bytes of the plans' file, of which the one at p is p modulo 251.
+fn file(alloc: Global) -> Result<Vec<u8>, AllocError> {
+    let mut out = Vec::new(alloc);
+    for place in 0..60_251u32 {
+        out.push((place % 251) as u8)?;
+    }
+    Ok(out)
+}
+
+// Adds so many bytes of the plans' file from a place on.
+fn add_file(out: &mut Vec<u8>, file: &[u8], from: u64, length: u64) -> Result<(), Fail> {
+    for k in 0..length.saturating_add(59_999) / 60_000 {
+        let done = k.saturating_mul(60_000);
+        let start = (from.saturating_add(done) % 251) as usize;
+        let more = length.saturating_sub(done).min(60_000) as usize;
+        let bytes = file.get(start..start.saturating_add(more)).ok_or("file")?;
+        out.extend_from_slice(bytes)?;
     }
     Ok(())
 }
@@ -210,27 +239,74 @@ fn low(n: u64) -> u32 {
     (n % 4_294_967_296) as u32
 }
 
-// The bytes of a packet's line.
-fn packet(alloc: Global, line: &str) -> Result<Vec<u8>, Fail> {
-    let mut parts = line.split(" ");
-    let mut bytes = Vec::new(alloc);
-    for pair in parts.next().ok_or("no bytes")?.as_bytes().chunks(2) {
+// Adds the bytes of this text, two hexadecimal digits each.
+fn add_hex(bytes: &mut Vec<u8>, text: &str) -> Result<(), Fail> {
+    for pair in text.as_bytes().chunks(2) {
         let high = digit(*pair.first().ok_or("digit")?).ok_or("digit")?;
         let low = digit(*pair.get(1).ok_or("digit")?).ok_or("digit")?;
         bytes.push(high % 16 * 16 + low % 16)?;
     }
+    Ok(())
+}
+
+// The bytes of a packet's line.
+fn packet(alloc: Global, file: &[u8], line: &str) -> Result<Vec<u8>, Fail> {
+    let mut parts = line.split(" ");
+    let mut bytes = Vec::new(alloc);
+    add_hex(&mut bytes, parts.next().ok_or("no bytes")?)?;
     let from = number(parts.next())?;
-    add_file(&mut bytes, from, number(parts.next())?)?;
+    add_file(&mut bytes, file, from, number(parts.next())?)?;
     Ok(bytes)
 }
 
 // The packets of these texts, one behind the other.
-fn packets(alloc: Global, texts: &[&str]) -> Result<Vec<Vec<u8>>, Fail> {
+fn packets(alloc: Global, file: &[u8], texts: &[&str]) -> Result<Vec<Vec<u8>>, Fail> {
     let mut packets = Vec::new(alloc);
     for text in texts {
         for line in text.lines() {
-            packets.push(packet(alloc, line)?)?;
+            packets.push(packet(alloc, file, line)?)?;
         }
+    }
+    Ok(packets)
+}
+
+// Adds a number in two bytes, the high one first.
+fn add_two(out: &mut Vec<u8>, n: u32) -> Result<(), AllocError> {
+    out.push((n / 256 % 256) as u8)?;
+    Ok(out.push((n % 256) as u8)?)
+}
+
+// Part k of 280 of a unit of 16,777,216 bytes, of 60,000 bytes but for the last. It goes out as packet k of its packet id, 10
+// ticks after the part before it, and as packet k + 2 of its stream, of which every third has a full header.
+fn part(alloc: Global, file: &[u8], k: u32) -> Result<Vec<u8>, Fail> {
+    let (from, place) = (k.saturating_mul(60_000), k.saturating_add(2));
+    let length = 16_777_216u32.saturating_sub(from).min(60_000);
+    let is_full = place % 3 == 0;
+    let mut out = Vec::new(alloc);
+    out.extend_from_slice(&[0x7f, 3])?;
+    add_two(&mut out, length.saturating_add(if is_full { 79 } else { 37 }))?;
+    out.extend_from_slice(&[0, 0x10u8.saturating_add((place % 16) as u8)])?;
+    if is_full {
+        add_hex(&mut out, FULL_HEADER)?;
+    } else {
+        out.push(0x61)?;
+    }
+    out.extend_from_slice(&[if k == 0 { 1 } else { 0 }, 0, 1, 0])?;
+    out.extend_from_slice(&k.saturating_mul(10).saturating_add(65_536_200).to_be_bytes())?;
+    out.extend_from_slice(&k.to_be_bytes())?;
+    add_two(&mut out, length.saturating_add(20))?;
+    out.push(if k == 0 { 0x2a } else if k == 279 { 0x2e } else { 0x2c })?;
+    out.push(279u32.saturating_sub(k).min(255) as u8)?;
+    add_hex(&mut out, "000000070000000100000001000000000000")?;
+    add_file(&mut out, file, u64::from(from), u64::from(length))?;
+    Ok(out)
+}
+
+// The packets of a plan with one unit of 16,777,216 bytes.
+fn long_unit(alloc: Global, file: &[u8]) -> Result<Vec<Vec<u8>>, Fail> {
+    let mut packets = packets(alloc, file, &[LONG_UNIT_MESSAGES])?;
+    for k in 0..280 {
+        packets.push(part(alloc, file, k)?)?;
     }
     Ok(packets)
 }
@@ -251,7 +327,7 @@ fn delivered(alloc: Global, packets: &[Vec<u8>], places: &str) -> Result<Vec<u8>
 
 // Adds the record of the unit on a line: the mark, timed media, packet id 256, the time, the numbers, no offset,
 // no priority and no dependency, the length, and the bytes.
-fn add_record(out: &mut Vec<u8>, line: &str) -> Result<(), Fail> {
+fn add_record(out: &mut Vec<u8>, file: &[u8], line: &str) -> Result<(), Fail> {
     let mut words = line.split(" ");
     let mpu = number(words.next())?;
     let fragment = number(words.next())?;
@@ -266,27 +342,34 @@ fn add_record(out: &mut Vec<u8>, line: &str) -> Result<(), Fail> {
     }
     out.extend_from_slice(&[0, 0])?;
     out.extend_from_slice(&low(length).to_be_bytes())?;
-    Ok(add_file(out, from, length)?)
+    add_file(out, file, from, length)
 }
 
 // The records of these units, in this order.
-fn records(alloc: Global, units: &str) -> Result<Vec<u8>, Fail> {
+fn records(alloc: Global, file: &[u8], units: &str) -> Result<Vec<u8>, Fail> {
     let mut out = Vec::new(alloc);
     if units == "none" {
         return Ok(out);
     }
     for word in units.split(" ") {
         let unit = number(Some(word))?;
-        add_record(&mut out, UNITS.lines().nth(unit as usize).ok_or("no unit")?)?;
+        add_record(&mut out, file, UNITS.lines().nth(unit as usize).ok_or("no unit")?)?;
     }
     Ok(out)
 }
 
 // Whether `take` of a delivery writes the records of these units and notes these lines, each behind a comma but
 // the first.
-fn gives_back(alloc: Global, input: Vec<u8>, units: &str, notes: &str) -> Result<bool, Fail> {
+fn gives_back(
+    alloc: Global,
+    file: &[u8],
+    input: Vec<u8>,
+    units: &str,
+    notes: &str,
+) -> Result<bool, Fail> {
     let words = words(alloc, &["take"])?;
-    let mut port = MemoryPort::new(alloc, input, 100, 10_000, Vec::new(alloc))?;
+    let room = low(input.len() as u64).saturating_add(10_000);
+    let mut port = MemoryPort::new(alloc, input, 1_000, room, Vec::new(alloc))?;
     let mut shelf = MemoryShelf::new(alloc, Vec::new(alloc));
     let status = run(alloc, &words, &mut port, &mut shelf);
     let mut lines = Vec::new(alloc);
@@ -294,7 +377,7 @@ fn gives_back(alloc: Global, input: Vec<u8>, units: &str, notes: &str) -> Result
         lines.extend_from_slice(line.as_bytes())?;
         lines.push(b'\n')?;
     }
-    let records = records(alloc, units)?;
+    let records = records(alloc, file, units)?;
     Ok(
         status == Status::Done
             && port.written() == records.as_slice()
@@ -303,13 +386,17 @@ fn gives_back(alloc: Global, input: Vec<u8>, units: &str, notes: &str) -> Result
 }
 
 // The first row of a table that is wrong, or no text. A row is `PLACES @ UNITS @ NOTES`.
-fn wrong_row<'a>(alloc: Global, texts: &[&str], rows: &'a str) -> Result<&'a str, Fail> {
-    let packets = packets(alloc, texts)?;
+fn wrong_row<'a>(
+    alloc: Global,
+    file: &[u8],
+    packets: &[Vec<u8>],
+    rows: &'a str,
+) -> Result<&'a str, Fail> {
     for row in rows.lines() {
         let (places, rest) = row.split_once(" @ ").ok_or("no row")?;
         let (units, notes) = rest.split_once(" @ ").ok_or("no row")?;
-        let input = delivered(alloc, &packets, places)?;
-        if !gives_back(alloc, input, units, notes)? {
+        let input = delivered(alloc, packets, places)?;
+        if !gives_back(alloc, file, input, units, notes)? {
             return Ok(row);
         }
     }
@@ -318,21 +405,33 @@ fn wrong_row<'a>(alloc: Global, texts: &[&str], rows: &'a str) -> Result<&'a str
 
 #[test]
 fn gives_back_what_is_expected_of_the_worked_plan(rt: HostRuntime) -> Result<(), Fail> {
-    assert_eq!(rt; wrong_row(rt.alloc(), &[PACKETS], WORKED)?, "");
+    let file = file(rt.alloc())?;
+    let packets = packets(rt.alloc(), &file, &[PACKETS])?;
+    assert_eq!(rt; wrong_row(rt.alloc(), &file, &packets, WORKED)?, "");
     Ok(())
 }
 
 #[test]
 fn gives_back_what_is_expected_with_one_more_table(rt: HostRuntime) -> Result<(), Fail> {
-    let texts = [PACKETS, ONE_MORE_TABLE];
-    assert_eq!(rt; wrong_row(rt.alloc(), &texts, WITH_ONE_MORE_TABLE)?, "");
+    let file = file(rt.alloc())?;
+    let packets = packets(rt.alloc(), &file, &[PACKETS, ONE_MORE_TABLE])?;
+    assert_eq!(rt; wrong_row(rt.alloc(), &file, &packets, WITH_ONE_MORE_TABLE)?, "");
     Ok(())
 }
 
 #[test]
 fn gives_back_what_is_expected_over_hours(rt: HostRuntime) -> Result<(), Fail> {
-    let texts = [PACKETS, HOURS_LATER];
-    assert_eq!(rt; wrong_row(rt.alloc(), &texts, OVER_HOURS)?, "");
+    let file = file(rt.alloc())?;
+    let packets = packets(rt.alloc(), &file, &[PACKETS, HOURS_LATER])?;
+    assert_eq!(rt; wrong_row(rt.alloc(), &file, &packets, OVER_HOURS)?, "");
+    Ok(())
+}
+
+#[test]
+fn gives_back_what_is_expected_of_a_long_unit(rt: HostRuntime) -> Result<(), Fail> {
+    let file = file(rt.alloc())?;
+    let packets = long_unit(rt.alloc(), &file)?;
+    assert_eq!(rt; wrong_row(rt.alloc(), &file, &packets, OF_A_LONG_UNIT)?, "");
     Ok(())
 }
 
@@ -340,7 +439,8 @@ fn gives_back_what_is_expected_over_hours(rt: HostRuntime) -> Result<(), Fail> {
 fn keeps_more_than_is_signalled_of_a_delivery_that_is_not_near(
     rt: HostRuntime,
 ) -> Result<(), Fail> {
-    let texts = [PACKETS, HOURS_LATER];
-    assert_eq!(rt; wrong_row(rt.alloc(), &texts, NOT_NEAR)?, "");
+    let file = file(rt.alloc())?;
+    let packets = packets(rt.alloc(), &file, &[PACKETS, HOURS_LATER])?;
+    assert_eq!(rt; wrong_row(rt.alloc(), &file, &packets, NOT_NEAR)?, "");
     Ok(())
 }
