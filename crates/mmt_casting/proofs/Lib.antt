@@ -1,0 +1,5 @@
+pub mod FirstOut
+pub mod Long
+pub mod InOrder
+pub mod Putting
+pub mod Whole

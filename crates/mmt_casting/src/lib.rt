@@ -1,0 +1,13 @@
+//! The cast of a programme, and why there is none.
+#![tactic(auto)]
+
+mod alone;
+mod ends;
+mod messages;
+mod ranges;
+mod refusing;
+mod sorting;
+mod tables;
+
+pub use alone::alone_is_sent;
+pub use ends::CastEnd;
