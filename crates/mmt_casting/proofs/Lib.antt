@@ -3,3 +3,4 @@ pub mod Long
 pub mod InOrder
 pub mod Putting
 pub mod Whole
+pub mod Gathering

@@ -1,3 +1,4 @@
 pub mod Ends
 pub mod Alone
 pub mod Numbered
+pub mod Places

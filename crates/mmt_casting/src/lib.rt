@@ -3,7 +3,9 @@
 
 mod alone;
 mod ends;
+mod groups;
 mod messages;
+mod places;
 mod ranges;
 mod refusing;
 mod sorting;
