@@ -4,3 +4,4 @@ pub mod InOrder
 pub mod Putting
 pub mod Whole
 pub mod Gathering
+pub mod Spots

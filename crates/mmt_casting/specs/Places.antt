@@ -44,6 +44,13 @@ pub record IsSpot (programme : Programme) (s : Spot) : Type 0 where
   pub left : drop s.unit_place (all_units programme) ≡ units_from programme s
   pub inside : s.asset < length programme.assets → (s.mpu < length (asset_at programme s.asset).mpus) × (s.unit < length (placed_at programme s).value.units)
 
+-- the first spot behind an MPU of an asset with so many
+abbrev pub spot_behind : Spot → ℕ → ℕ → Spot
+spot_behind s mpus u =
+    if nat_lt (s.mpu + 1) mpus
+    then record { asset = s.asset; mpu = s.mpu + 1; unit = 0; mpu_place = s.mpu_place + 1; unit_place = u }
+    else record { asset = s.asset + 1; mpu = 0; unit = 0; mpu_place = s.mpu_place + 1; unit_place = u }
+
 -- ---- groups
 
 -- how many units a unit of a programme begins a group of

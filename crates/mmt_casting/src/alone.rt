@@ -18,7 +18,7 @@ pub(crate) struct Place {
 }
 
 /// The bytes of a unit's header.
-fn header_length(timed: bool) -> u32
+pub(crate) fn header_length(timed: bool) -> u32
     ensures value { result ≡ (if timed then 14 else 4) }
     ensures short { result ≤ 14 }
 {

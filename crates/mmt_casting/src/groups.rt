@@ -53,7 +53,7 @@ fn fitting(units: &[Unit], first: u32, at: LongTick, header: u32, limit: u32) ->
 
 /// The group that a unit begins among those of its MPU.
 #[tactic(auto, unfolding(crate::specs::Places::size_of, crate::specs::Places::bytes_of))]
-fn group_of(units: &[Unit], first: u32, header: u32, limit: u32) -> Group
+pub(crate) fn group_of(units: &[Unit], first: u32, header: u32, limit: u32) -> Group
     requires inside { first < length units.now }
     requires few { length units.now < 2 ^ 32 }
     requires short { limit ≤ 60000 }

@@ -10,6 +10,7 @@ mod ranges;
 mod refusing;
 mod sorting;
 mod tables;
+mod walking;
 
 pub use alone::alone_is_sent;
 pub use ends::CastEnd;
