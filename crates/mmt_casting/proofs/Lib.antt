@@ -5,3 +5,5 @@ pub mod Putting
 pub mod Whole
 pub mod Gathering
 pub mod Spots
+pub mod Sendings
+pub mod Counts

@@ -268,3 +268,7 @@ behind-spot programme right s n k is l e ek = go (nat_lt (s.mpu + 1) k) refl
     go : (t : Bool) → nat_lt (s.mpu + 1) k ≡ t → IsSpot programme (cond t (record { asset = s.asset; mpu = s.mpu + 1; unit = 0; mpu_place = s.mpu_place + 1; unit_place = s.unit_place + n }) (record { asset = s.asset + 1; mpu = 0; unit = 0; mpu_place = s.mpu_place + 1; unit_place = s.unit_place + n }))
     go true b = next-mpu programme right s n is l e (omega (arith, ltb-true (s.mpu + 1) k b, ek))
     go false b = next-asset programme right s n is l e (omega (arith, ltb-false (s.mpu + 1) k b, ek))
+
+-- a group ends within the units
+pub group-end : (programme : Programme) → IsRight programme → (s : Spot) (g : Group) → IsSpot programme s → s.asset < length programme.assets → IsGroup programme s g → s.unit_place + g.size ≤ length (all_units programme)
+group-end programme right s g is l group = omega (arith, (spot-fits programme right s is l).room, group.within, (is.inside l).1)

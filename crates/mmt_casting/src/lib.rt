@@ -2,6 +2,7 @@
 #![tactic(auto)]
 
 mod alone;
+mod counting;
 mod ends;
 mod groups;
 mod messages;

@@ -21,7 +21,8 @@ use mmt_model::{Asset, Mpu, Programme};
 impl Spot {
     /// The first unit of a programme.
     pub fn first() -> Spot
-        ensures { (programme : Programme) → IsRight programme → IsSpot programme result }
+        ensures spot { (programme : Programme) → IsRight programme → IsSpot programme result }
+        ensures place { result.unit_place ≡ 0 }
     {
         Spot {
             asset: 0,

@@ -103,3 +103,15 @@ pub(crate) fn tables_end(programme: &Programme) -> Option<CastEnd>
     }
     None
 }
+
+ghost use Rattle.mmt_cast.specs.Tables.{table_message_length};
+
+/// How many bytes the message with a table has.
+#[tactic(auto, unfolding(mmt_cast::specs::Tables::table_message_length))]
+pub(crate) fn message_length(programme: &Programme, listed: &[(u32, u32)]) -> u64
+    requires { ProgrammeFits programme.now }
+    ensures value { result ≡ table_message_length programme.now listed.now }
+    ensures short { result < 2 ^ 58 }
+{
+    12 + table_length(programme, listed)
+}
