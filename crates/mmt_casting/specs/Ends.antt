@@ -34,8 +34,3 @@ pub record ProgrammeFits (programme : Programme) : Type 0 where
 -- the bytes of an MPU's extended timestamp descriptor, which is there where it has access units
 abbrev pub extended_of_mpu : Mpu → ℕ
 extended_of_mpu m = if nat_lt 0 (length m.aus) then 16 + 4 * length m.aus else 0
-
--- the first of two ends
-abbrev pub end_or : Option CastEnd → Option CastEnd → Option CastEnd
-end_or None later = later
-end_or (Some end) later = Some end

@@ -1,10 +1,11 @@
-//! The first refusal of a programme, by the number of its packets.
+//! The first refusal of a programme.
 
-ghost use Rattle.std.specs.Prelude.{◌≡◌, ◌<◌, ◌^◌, length, option_map};
-ghost use Rattle.mmt_cast.specs.Casting.{planned};
+ghost use Rattle.std.specs.Prelude.{◌≡◌, option_map};
 ghost use Rattle.mmt_cast.specs.Refusing.{refusal, refusal_of_packets};
-ghost use Rattle.mmt_casting.specs.Ends.{end_of, ProgrammeFits};
+ghost use Rattle.mmt_casting.specs.Ends.{end_of};
+ghost use Rattle.mmt_model.specs.Right.{IsRight};
 
+use crate::counting::packets_of;
 use crate::ends::CastEnd;
 use crate::ranges::mpus_end;
 use crate::tables::tables_end;
@@ -22,27 +23,18 @@ fn packets_end(packets: u64) -> Option<CastEnd>
     }
 }
 
-/// The first refusal of a programme with so many packets.
-pub(crate) fn first_end(programme: &Programme, packets: u64) -> Option<CastEnd>
-    requires fits { ProgrammeFits programme.now }
-    requires few { length programme.now.signals < 2 ^ 32 }
-    requires packets { packets ≡ length (planned programme.now) }
+/// The first refusal of a programme: times, then tables, then packets. It takes no memory.
+pub(crate) fn first_end(programme: &Programme) -> Option<CastEnd>
+    requires { IsRight programme.now }
     ensures { result ≡ option_map end_of (refusal programme.now) }
 {
-    earlier(
-        mpus_end(programme),
-        earlier(tables_end(programme), packets_end(packets)),
-    )
-}
-
-ghost use Rattle.mmt_casting.specs.Ends.{end_or};
-
-/// The first of two ends.
-fn earlier(first: Option<CastEnd>, later: Option<CastEnd>) -> Option<CastEnd>
-    ensures { result ≡ end_or first later }
-{
-    match first {
-        Some(_) => first,
-        None => later,
+    let times = mpus_end(programme);
+    if times.is_some() {
+        return times;
     }
+    let tables = tables_end(programme);
+    if tables.is_some() {
+        return tables;
+    }
+    packets_end(packets_of(programme))
 }
