@@ -7,3 +7,4 @@ pub mod Gathering
 pub mod Spots
 pub mod Sendings
 pub mod Counts
+pub mod InTime

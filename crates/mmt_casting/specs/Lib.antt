@@ -2,3 +2,4 @@ pub mod Ends
 pub mod Alone
 pub mod Numbered
 pub mod Places
+pub mod Timed

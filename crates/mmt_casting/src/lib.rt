@@ -3,6 +3,7 @@
 
 mod alone;
 mod counting;
+mod due;
 mod ends;
 mod groups;
 mod messages;
