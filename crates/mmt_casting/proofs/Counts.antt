@@ -87,3 +87,11 @@ signals-later programme s xs x l is none = later-none (refusal_of_signal program
 pub no-end : (r : Option Refusal) (o : Option CastEnd) → o ≡ option_map end_of r → is_some o ≡ false → r ≡ None
 no-end None o e none = refl
 no-end (Some r) o e none = absurd (true≢false (sym (ap is_some e) ∙ none))
+
+pub times-none : (programme : Programme) → refusal programme ≡ None → refusal_of_mpus (all_mpus programme) ≡ None
+unfolding refusal
+times-none programme e = first-none _ _ e
+
+pub tables-none : (programme : Programme) → refusal programme ≡ None → refusal_of_signals programme 0 programme.signals ≡ None
+unfolding refusal
+tables-none programme e = first-none _ _ (later-none _ _ e)

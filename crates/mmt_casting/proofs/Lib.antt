@@ -8,3 +8,7 @@ pub mod Spots
 pub mod Sendings
 pub mod Counts
 pub mod InTime
+pub mod UnitTimes
+pub mod Adding
+pub mod Grouped
+pub mod Progress

@@ -101,7 +101,7 @@ signals-done programme s xs l = ap (λ ys. packets_in programme (map_from (sendi
 
 -- ---- what a right programme has
 
-few-aus : (t : Bool) (n : ℕ) → FitsAus t n → n ≤ 60
+pub few-aus : (t : Bool) (n : ℕ) → FitsAus t n → n ≤ 60
 few-aus true n f = f
 few-aus false n f = omega arith
 

@@ -9,7 +9,7 @@ use Rattle.mmt_cast.specs.Placing.{PlacedMpu, PlacedUnit, all_mpus, all_units, f
 use Rattle.mmt_cast.specs.Right.{mpu_at, no_mpu, no_placed_mpu, no_placed_unit, unit_at}
 use Rattle.mmt_cast.specs.Sending.{Sending, group_size, sending_of_units}
 use Rattle.mmt_casting.proofs.Gathering.{header_of, new-later, sending-is, size-is}
-use Rattle.mmt_casting.specs.Places.{IsGroup, IsSpot, asset_at, bytes_of, fits, goes_in, mpu_in, mpus_from, placed_at, placed_in, sending_at, size_at, size_of, spot_behind, unit_in, units_from}
+use Rattle.mmt_casting.specs.Places.{IsGroup, IsSpot, asset_at, bytes_of, fits, goes_in, mpu_in, mpus_from, placed_at, placed_in, room_left, sending_at, size_at, size_of, spot_behind, unit_in, units_from}
 use Rattle.mmt_casting.specs.declared.groups.Group.{Group}
 use Rattle.mmt_casting.specs.declared.places.Spot.{Spot}
 use Rattle.mmt_model.specs.Right.{IsRight, no_asset}
@@ -181,6 +181,15 @@ next-asset programme right s n is l e b =
 
 -- ---- sizes
 
+-- the MPU of a spot is the one at its place
+pub mpu-here : (programme : Programme) (s : Spot) → IsSpot programme s → s.asset < length programme.assets → (s.mpu_place < length (all_mpus programme)) × (mpu_at programme s.mpu_place ≡ placed_at programme s)
+mpu-here programme s is l =
+    let u = unit-of programme s no_placed_unit.value is l in
+    let p = placed-unit programme s.unit_place u.of in
+    let place : (unit_at programme s.unit_place).mpu_place ≡ s.mpu_place = ap (λ (x : PlacedUnit). x.mpu_place) u.is in
+    let in_mpu : (unit_at programme s.unit_place).in_mpu ≡ placed_at programme s = ap (λ (x : PlacedUnit). x.in_mpu) u.is in
+    (omega (arith, p.0, place), ap (mpu_at programme) (sym place) ∙ (p.1 ∙ in_mpu))
+
 -- what a spot has room for
 pub record SpotFits (programme : Programme) (s : Spot) : Type 0 where
   pub room : s.unit_place + (length (placed_at programme s).value.units - s.unit) ≤ length (all_units programme)
@@ -198,11 +207,8 @@ spot-fits programme right s is l =
     let f : ℕ → PlannedUnit → PlacedUnit = unit_in s.mpu_place (placed_at programme s) in
     let units : List PlannedUnit = (placed_at programme s).value.units in
     let later : List PlacedUnit = flat_map_from units_of (s.mpu_place + 1) (mpus_from programme s.asset (s.mpu + 1)) in
-    let p = placed-unit programme s.unit_place u.of in
-    let place : (unit_at programme s.unit_place).mpu_place ≡ s.mpu_place = ap (λ (x : PlacedUnit). x.mpu_place) u.is in
-    let in_mpu : (unit_at programme s.unit_place).in_mpu ≡ placed_at programme s = ap (λ (x : PlacedUnit). x.in_mpu) u.is in
-    let known : s.mpu_place < length (all_mpus programme) = omega (arith, p.0, place) in
-    let here : get_or (all_mpus programme) s.mpu_place no_placed_mpu ≡ placed_at programme s = ap (λ i. get_or (all_mpus programme) i no_placed_mpu) (sym place) ∙ (p.1 ∙ in_mpu) in
+    let known : s.mpu_place < length (all_mpus programme) = (mpu-here programme s is l).0 in
+    let here : get_or (all_mpus programme) s.mpu_place no_placed_mpu ≡ placed_at programme s = (mpu-here programme s is l).1 in
     let own = flat-long units_of 0 (all_mpus programme) s.mpu_place no_placed_mpu known in
     let mpus = flat-long mpus_of 0 programme.assets s.asset no_asset l in
     record {
@@ -233,6 +239,14 @@ size-fits h l x ys = go (nat_le x.length l)
     go true = (omega arith, omega (arith, fits-le h l x.at.0 l (x ∷ ys)))
     go false = (omega arith, omega arith)
 
+bytes-fit : (h l : ℕ) (x : PlannedUnit) (ys : List PlannedUnit) → bytes_of h l (x ∷ ys) ≤ l
+unfolding bytes_of
+bytes-fit h l x ys = go (nat_le x.length l)
+  where
+    go : (t : Bool) → cond t (l - room_left h l x.at.0 l (x ∷ ys)) 0 ≤ l
+    go true = omega arith
+    go false = omega arith
+
 pub group-is : (programme : Programme) (s : Spot) (g : Group) (h : ℕ) → IsSpot programme s → s.asset < length programme.assets → h ≡ header_of (placed_at programme s)
     → g.size ≡ size_of h programme.limit (drop s.unit (placed_at programme s).value.units) → g.bytes ≡ bytes_of h programme.limit (drop s.unit (placed_at programme s).value.units) → IsGroup programme s g
 unfolding size_at sending_at
@@ -259,6 +273,7 @@ group-is programme s g h is l eh es eb =
       ∙ ap (λ y. cond (nat_lt 1 g.size) (Sending.Group s.unit_place g.size y g.bytes) (Sending.Alone s.unit_place y)) (sym u.is)));
       some = omega (arith, fit.0, size);
       within = omega (arith, fit.1, size, length-drop (s.unit + 1) units, (is.inside l).1);
+      short = omega (arith, bytes, bytes-fit (header_of placed) programme.limit x ys);
     }
 
 pub behind-spot : (programme : Programme) → IsRight programme → (s : Spot) (n k : ℕ) → IsSpot programme s → s.asset < length programme.assets → s.unit + n ≡ length (placed_at programme s).value.units

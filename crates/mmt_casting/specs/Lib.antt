@@ -3,3 +3,4 @@ pub mod Alone
 pub mod Numbered
 pub mod Places
 pub mod Timed
+pub mod Spans

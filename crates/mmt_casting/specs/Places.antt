@@ -98,3 +98,4 @@ pub record IsGroup (programme : Programme) (s : Spot) (g : Group) : Type 0 where
   pub sending : sending_at programme s.unit_place ≡ sending_by s.unit_place (unit_at programme s.unit_place) g
   pub some : 1 ≤ g.size
   pub within : s.unit + g.size ≤ length (placed_at programme s).value.units
+  pub short : g.bytes ≤ programme.limit

@@ -6,12 +6,15 @@ mod counting;
 mod due;
 mod ends;
 mod groups;
+mod media;
 mod messages;
 mod places;
 mod ranges;
 mod refusing;
+mod sending;
 mod sorting;
 mod tables;
+mod units;
 mod walking;
 
 pub use alone::alone_is_sent;

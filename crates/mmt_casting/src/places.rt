@@ -59,6 +59,8 @@ pub(crate) fn after(programme: &Programme, spot: Spot, size: u32) -> Spot
     requires within { spot.unit + size ≤ length (placed_at programme.now spot).value.units }
     ensures spot { IsSpot programme.now result }
     ensures place { result.unit_place ≡ spot.unit_place + size }
+    ensures low { spot.asset ≤ result.asset }
+    ensures high { result.asset ≤ spot.asset + 1 }
 {
     let mpus = asset_of(programme, spot).mpus.len();
     let units = mpu_of(programme, spot).units.len();
@@ -76,7 +78,9 @@ fn first_after(spot: Spot, mpus: usize, unit_place: u32) -> Spot
     requires mpu { spot.mpu + 1 < 2 ^ 32 }
     requires asset { spot.asset + 1 < 2 ^ 32 }
     requires mpu_place { spot.mpu_place + 1 < 2 ^ 32 }
-    ensures { result ≡ spot_behind spot mpus unit_place }
+    ensures value { result ≡ spot_behind spot mpus unit_place }
+    ensures low { spot.asset ≤ result.asset }
+    ensures high { result.asset ≤ spot.asset + 1 }
 {
     if (spot.mpu as usize) + 1 < mpus {
         Spot {

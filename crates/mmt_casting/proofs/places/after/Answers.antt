@@ -32,7 +32,7 @@ returns-then-unit-units-clause-spot c =
 
 pub returns-else-unit-units-clause-spot : goal.returns-else-unit-units-clause-spot
 returns-else-unit-units-clause-spot c =
-    subst (IsSpot c.args.programme.now) (sym c.first_after.ensures)
+    subst (IsSpot c.args.programme.now) (sym c.first_after.ensures.value)
     (behind-spot c.args.programme.now c.requires.right c.args.spot c.args.size c.len-mpus.result c.requires.spot c.requires.inside
     (omega (arith, c.if-unit-units.false, c.len-units.ensures, ap (λ (m : Mpu). length m.units) c.mpu_of.ensures, c.requires.within))
     (c.len-mpus.ensures ∙ ap (λ (x : Asset). length x.mpus) c.asset_of.ensures))
