@@ -12,3 +12,4 @@ pub mod UnitTimes
 pub mod Adding
 pub mod Grouped
 pub mod Progress
+pub mod Announced

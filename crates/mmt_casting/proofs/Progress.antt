@@ -124,7 +124,7 @@ number-fits programme s g number packets units none is l group sent =
 flat-more : (programme : Programme) (a : List Sending) (x : Sending) → flat programme (a ++ x ∷ []) ≡ flat programme a ++ packets_of programme x
 flat-more programme a x = flat_map-append (packets_of programme) a (x ∷ []) ∙ ap (λ l. flat programme a ++ l) (append-nil (packets_of programme x))
 
-packets-more : (programme : Programme) (done : List Sending) (x : Sending) (number : ℕ) → before programme done x ≡ number
+pub packets-more : (programme : Programme) (done : List Sending) (x : Sending) (number : ℕ) → before programme done x ≡ number
     → numbered_after [] (flat programme done) ++ numbered_packets programme x number ≡ numbered_after [] (flat programme (done ++ x ∷ []))
 unfolding numbered_packet
 packets-more programme done x number e =

@@ -1,15 +1,18 @@
 -- What is sent of the units of a sending.
-use Rattle.std.specs.Prelude.{ℕ, ◌-◌, ◌==◌, List, [], map, if◌then◌else◌}
-use Rattle.std.specs.List.{flat_map}
-use Rattle.mmt_cast.specs.Casting.{due_of_placed, numbered_after, time_of_unit}
-use Rattle.mmt_cast.specs.Placing.{PlacedUnit, map_from}
+use Rattle.std.specs.Prelude.{ℕ, ◌-◌, ◌==◌, List, [], ◌∷◌, map, length, take, Option, Some, None, if◌then◌else◌}
+use Rattle.std.specs.List.{flat_map, sum_by}
+use Rattle.mmt_cast.specs.Casting.{due_of_placed, numbered_after, place_of_mpu, time_of_unit}
+use Rattle.mmt_cast.specs.Placing.{PlacedUnit, all_mpus, map_from}
 use Rattle.mmt_cast.specs.Right.{unit_at}
 use Rattle.mmt_cast.specs.Sending.{Sending, packet_count, packets_of, sending_of_signal, tick_of_packet}
 use Rattle.mmt_casting.specs.declared.units.Run.{Run}
 use Rattle.mmt_model.specs.Carrying.{numbers}
 use Rattle.mmt_model.specs.declared.casts.Sent.{Sent}
 use Rattle.mmt_model.specs.declared.casts.SentUnit.{SentUnit}
+use Rattle.mmt_model.specs.declared.casts.TableCopy.{TableCopy}
 use Rattle.mmt_model.specs.declared.programmes.Programme.{Programme}
+use Rattle.mmt_model.specs.declared.programmes.Signal.{Signal}
+use Rattle.mmt_model.specs.declared.programmes.Signal.TheVariants as signals
 
 -- the packets of a sending of whose packet id so many stand before it
 abbrev pub run_by : Programme → Sending → ℕ → Run
@@ -48,3 +51,22 @@ signalling programme = numbered_after [] (flat_map (packets_of programme) (map_f
 -- the number of the first packet of the next group: the numbers go on within an asset
 abbrev pub next_number : ℕ → ℕ → ℕ → ℕ
 next_number asset next number = if next == asset then number else 0
+
+-- a signalling message as a table copy, where it is a table, that is sent in these packets
+unfoldable pub copies_by : Programme → ℕ → Run → Signal → List TableCopy
+copies_by programme s run (signals.Parameters at) = []
+copies_by programme s run (signals.Table at names) =
+    record { signal = s; names = map (place_of_mpu (all_mpus programme)) names; first = run.first; last = run.last; first_number = run.first_number; count = run.count } ∷ []
+
+-- how many MPUs the assets before one have
+abbrev pub start_of : Programme → ℕ → ℕ
+start_of programme a = sum_by (λ x. length x.mpus) (take a programme.assets)
+
+-- that of each asset
+abbrev pub starts : Programme → List ℕ
+starts programme = map (start_of programme) (numbers 0 (length programme.assets))
+
+-- an item that may be there, as a list
+abbrev pub listed : Option TableCopy → List TableCopy
+listed None = []
+listed (Some copy) = copy ∷ []

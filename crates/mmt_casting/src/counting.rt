@@ -43,7 +43,7 @@ pub(crate) fn group_packets(programme: &Programme, spot: Spot, group: Group) -> 
 }
 
 /// How many packets a signalling message has.
-fn message_packets(programme: &Programme, s: u32, signal: &Signal) -> u32
+pub(crate) fn message_packets(programme: &Programme, s: u32, signal: &Signal) -> u32
     requires right { IsRight programme.now }
     requires short { refusal_of_signal programme.now s signal.now ≡ None }
     ensures count { result ≡ packet_count programme.now (sending_of_signal programme.now s signal.now) }

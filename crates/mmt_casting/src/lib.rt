@@ -12,6 +12,7 @@ mod places;
 mod ranges;
 mod refusing;
 mod sending;
+mod signalling;
 mod sorting;
 mod tables;
 mod units;
