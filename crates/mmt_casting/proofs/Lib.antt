@@ -13,3 +13,5 @@ pub mod Adding
 pub mod Grouped
 pub mod Progress
 pub mod Announced
+pub mod Starting
+pub mod Copied

@@ -2,6 +2,7 @@
 #![tactic(auto)]
 
 mod alone;
+mod copies;
 mod counting;
 mod due;
 mod ends;
