@@ -154,12 +154,19 @@ first-spot programme right =
     let m : IsFull programme = all-full programme right in
     record {
       left = ap (flat_map_from units_of 0) (mpus-first programme 0) ∙ units-first programme 0 0 0 0 (m.mpus 0 (right.assets_some));
+      mpus = mpus-first programme 0;
       inside = λ l. (m.mpus 0 l, m.units 0 0 l (m.mpus 0 l));
     }
 
 -- the next spot stands in the same MPU, or at the first unit of the next one, or of the next asset
 pub further-spot : (programme : Programme) (s : Spot) (n : ℕ) → IsSpot programme s → s.asset < length programme.assets → s.unit + n < length (placed_at programme s).value.units → IsSpot programme (further s n)
-further-spot programme s n is l b = record { left = left-further programme s n is (omega arith); inside = λ l. ((is.inside l).0, b) }
+further-spot programme s n is l b = record { left = left-further programme s n is (omega arith); mpus = is.mpus; inside = λ l. ((is.inside l).0, b) }
+
+mpus-behind : (programme : Programme) (s : Spot) → IsSpot programme s → s.asset < length programme.assets → drop (s.mpu_place + 1) (all_mpus programme) ≡ mpus_from programme s.asset (s.mpu + 1)
+mpus-behind programme s is l =
+    let e = is.mpus ∙ mpus-next programme s.asset s.mpu (is.inside l).0 in
+    let z : s.mpu_place + 1 ≡ suc s.mpu_place = omega arith in
+    ap (λ i. drop i (all_mpus programme)) z ∙ (split-at (all_mpus programme) s.mpu_place _ _ no_placed_mpu e).2
 
 pub next-mpu : (programme : Programme) → IsRight programme → (s : Spot) (n : ℕ) → IsSpot programme s → s.asset < length programme.assets → s.unit + n ≡ length (placed_at programme s).value.units
     → s.mpu + 1 < length (asset_at programme s.asset).mpus → IsSpot programme (first_of_mpu s.asset (s.mpu + 1) (s.mpu_place + 1) (s.unit_place + n))
@@ -167,6 +174,7 @@ next-mpu programme right s n is l e b =
     let m : IsFull programme = all-full programme right in
     record {
       left = left-further programme s n is (omega arith) ∙ (units-past programme (further s n) (omega arith) ∙ units-first programme s.asset (s.mpu + 1) (s.mpu_place + 1) (s.unit_place + n) b);
+      mpus = mpus-behind programme s is l;
       inside = λ l. (b, m.units s.asset (s.mpu + 1) l b);
     }
 
@@ -176,8 +184,17 @@ next-asset programme right s n is l e b =
     let m : IsFull programme = all-full programme right in
     record {
       left = left-further programme s n is (omega arith) ∙ (units-past programme (further s n) (omega arith) ∙ (ap (flat_map_from units_of (s.mpu_place + 1)) (mpus-past programme s.asset (s.mpu + 1) b) ∙ units-next programme right (s.asset + 1) (s.mpu_place + 1) (s.unit_place + n)));
+      mpus = mpus-behind programme s is l ∙ mpus-past programme s.asset (s.mpu + 1) b;
       inside = λ l. (m.mpus (s.asset + 1) l, m.units (s.asset + 1) 0 l (m.mpus (s.asset + 1) l));
     }
+
+-- behind the last asset there are no MPUs
+pub mpus-over : (programme : Programme) (s : Spot) → IsSpot programme s → length programme.assets ≤ s.asset → drop s.mpu_place (all_mpus programme) ≡ []
+unfolding mpus_from flat_map_from map_from
+mpus-over programme s is ge =
+    is.mpus
+    ∙ (ap₂ (λ (x : Asset) (xs : List Asset). map_from (placed_in s.asset x) s.mpu (drop s.mpu x.mpus) ++ flat_map_from mpus_of (s.asset + 1) xs) (beyond programme.assets s.asset no_asset ge) (drop_all (s.asset + 1) programme.assets (omega arith))
+    ∙ ap (λ ms. map_from (placed_in s.asset no_asset) s.mpu ms ++ []) (drop_all s.mpu [] (omega arith)))
 
 -- ---- sizes
 

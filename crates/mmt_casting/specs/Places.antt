@@ -1,6 +1,6 @@
 -- Where a walk over the units of a programme stands, and what is sent from there on.
 use Rattle.std.specs.Prelude.{◌≡◌, ℕ, ◌+◌, ◌-◌, ◌<◌, ◌≤◌, ◌==◌, ◌&&◌, nat_le, nat_lt, suc, max, Bool, List, [], ◌∷◌, ◌++◌, length, get_or, drop, if◌then◌else◌}
-use Rattle.mmt_cast.specs.Placing.{PlacedMpu, PlacedUnit, all_units, flat_map_from, map_from, mpus_of, units_of}
+use Rattle.mmt_cast.specs.Placing.{PlacedMpu, PlacedUnit, all_mpus, all_units, flat_map_from, map_from, mpus_of, units_of}
 use Rattle.mmt_cast.specs.Right.{no_mpu, unit_at}
 use Rattle.mmt_cast.specs.Sending.{Sending, group_size, sending_of_units, sendings_of_units}
 use Rattle.mmt_casting.specs.declared.groups.Group.{Group}
@@ -42,6 +42,7 @@ units_from programme s =
 -- a spot is that of a unit of the programme, or behind the last asset
 pub record IsSpot (programme : Programme) (s : Spot) : Type 0 where
   pub left : drop s.unit_place (all_units programme) ≡ units_from programme s
+  pub mpus : drop s.mpu_place (all_mpus programme) ≡ mpus_from programme s.asset s.mpu
   pub inside : s.asset < length programme.assets → (s.mpu < length (asset_at programme s.asset).mpus) × (s.unit < length (placed_at programme s).value.units)
 
 -- the first spot behind an MPU of an asset with so many

@@ -61,6 +61,7 @@ pub(crate) fn after(programme: &Programme, spot: Spot, size: u32) -> Spot
     ensures place { result.unit_place ≡ spot.unit_place + size }
     ensures low { spot.asset ≤ result.asset }
     ensures high { result.asset ≤ spot.asset + 1 }
+    ensures whole { spot.unit + size ≡ length (placed_at programme.now spot).value.units → (result.unit ≡ 0) × (result.mpu_place ≡ spot.mpu_place + 1) }
 {
     let mpus = asset_of(programme, spot).mpus.len();
     let units = mpu_of(programme, spot).units.len();
@@ -81,6 +82,8 @@ fn first_after(spot: Spot, mpus: usize, unit_place: u32) -> Spot
     ensures value { result ≡ spot_behind spot mpus unit_place }
     ensures low { spot.asset ≤ result.asset }
     ensures high { result.asset ≤ spot.asset + 1 }
+    ensures unit { result.unit ≡ 0 }
+    ensures mpu_place { result.mpu_place ≡ spot.mpu_place + 1 }
 {
     if (spot.mpu as usize) + 1 < mpus {
         Spot {
