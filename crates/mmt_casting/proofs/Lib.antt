@@ -15,3 +15,4 @@ pub mod Progress
 pub mod Announced
 pub mod Starting
 pub mod Copied
+pub mod NamedFrom

@@ -4,3 +4,5 @@ pub mod Numbered
 pub mod Places
 pub mod Timed
 pub mod Spans
+pub mod Named
+pub mod MpusOf

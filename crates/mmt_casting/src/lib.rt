@@ -9,6 +9,8 @@ mod ends;
 mod groups;
 mod media;
 mod messages;
+mod mpus;
+mod naming;
 mod places;
 mod ranges;
 mod refusing;

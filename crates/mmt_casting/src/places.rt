@@ -23,6 +23,8 @@ impl Spot {
     pub fn first() -> Spot
         ensures spot { (programme : Programme) → IsRight programme → IsSpot programme result }
         ensures place { result.unit_place ≡ 0 }
+        ensures unit { result.unit ≡ 0 }
+        ensures mpu_place { result.mpu_place ≡ 0 }
     {
         Spot {
             asset: 0,
