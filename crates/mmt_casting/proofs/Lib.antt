@@ -16,3 +16,5 @@ pub mod Announced
 pub mod Starting
 pub mod Copied
 pub mod NamedFrom
+pub mod MpusSent
+pub mod Together

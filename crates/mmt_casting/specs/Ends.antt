@@ -1,7 +1,7 @@
 -- Why a cast ends, and the sizes of a programme's parts.
-use Rattle.std.specs.Prelude.{Option, Some, None, ℕ, ◌+◌, ◌*◌, nat_lt, if◌then◌else◌, ◌≤◌, ◌<◌, ◌^◌, length}
+use Rattle.std.specs.Prelude.{◌≡◌, ◌⊎◌, Some, ℕ, ◌+◌, ◌*◌, nat_lt, if◌then◌else◌, ◌≤◌, ◌<◌, ◌^◌, length}
 use Rattle.std.specs.List.{AllByRecursion}
-use Rattle.mmt_cast.specs.Refusing.{Refusal}
+use Rattle.mmt_cast.specs.Refusing.{Refusal, refusal}
 use Rattle.mmt_casting.specs.declared.ends.CastEnd.{CastEnd}
 use Rattle.mmt_casting.specs.declared.ends.CastEnd.TheVariants as ends
 use Rattle.mmt_model.specs.declared.programmes.Asset.{Asset}
@@ -34,3 +34,7 @@ pub record ProgrammeFits (programme : Programme) : Type 0 where
 -- the bytes of an MPU's extended timestamp descriptor, which is there where it has access units
 abbrev pub extended_of_mpu : Mpu → ℕ
 extended_of_mpu m = if nat_lt 0 (length m.aus) then 16 + 4 * length m.aus else 0
+
+-- there is no cast for want of memory, or by the programme's first refusal
+abbrev pub IsEndOf : Programme → CastEnd → Type 0
+IsEndOf programme end = (end ≡ ends.OutOfMemory) ⊎ ((r : Refusal) × (refusal programme ≡ Some r) × (end ≡ end_of r))

@@ -2,6 +2,7 @@
 #![tactic(auto)]
 
 mod alone;
+mod casting;
 mod copies;
 mod counting;
 mod due;
@@ -21,5 +22,5 @@ mod tables;
 mod units;
 mod walking;
 
-pub use alone::alone_is_sent;
+pub use casting::cast_of;
 pub use ends::CastEnd;
