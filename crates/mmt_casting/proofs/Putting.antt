@@ -3,7 +3,9 @@ use Rattle.std.proofs.Common.{◌≡◌, ℕ, ◌+◌, ◌*◌, ◌==◌, ◌&&�
 use Rattle.mmt_cast.specs.Casting.{with_number}
 use Rattle.mmt_frag.specs.Cuts.{part_length, parts}
 use Rattle.mmt_cast.specs.Sending.{Sending, carried, header_length, id_of, packet_count, packet_of, payload_length, rap_of, tick_of_packet}
-use Rattle.mmt_casting.specs.Alone.{AloneIsSent, alone_packet}
+use Rattle.mmt_cast.specs.Placing.{PlacedUnit}
+use Rattle.mmt_casting.specs.Alone.{alone_packet, alone_packets}
+use Rattle.mmt_casting.specs.declared.alone.Place.{Place}
 use Rattle.mmt_casting.specs.Numbered.{numbered_packet, numbered_packets}
 use Rattle.mmt_model.specs.declared.casts.Carries.TheVariants as carries
 use Rattle.mmt_model.specs.declared.programmes.Programme.{Programme}
@@ -33,7 +35,7 @@ put-more f start items items' k p before push is =
     push ∙ (ap₂ (λ xs x. xs ++ x ∷ []) before is ∙ (append_assoc start (map f (numbers 0 k)) (f k ∷ []) ∙ ap (λ xs. start ++ xs) (sym last)))
 
 -- the packets of a unit that is sent by itself are those of the sending, numbered from its first number on
-pub alone-is-sent : AloneIsSent
+pub alone-is-sent : (programme : Programme) (x : PlacedUnit) (place : Place) → x.unit ≡ place.unit → alone_packets programme x.in_mpu.in_asset x.value place ≡ numbered_packets programme (Sending.Alone place.u x) place.number
 unfolding numbered_packet alone_packet packet_of with_number packet_count tick_of_packet id_of rap_of payload_length carried header_length
 alone-is-sent programme x place is =
     ap (λ c. map (λ k. record {

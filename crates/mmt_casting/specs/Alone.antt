@@ -1,9 +1,6 @@
 -- The packets of a unit that is sent by itself, by what they hang on.
-use Rattle.std.specs.Prelude.{◌≡◌, ℕ, ◌+◌, ◌*◌, ◌&&◌, ◌==◌, List, map, if◌then◌else◌}
+use Rattle.std.specs.Prelude.{ℕ, ◌+◌, ◌*◌, ◌&&◌, ◌==◌, List, map, if◌then◌else◌}
 use Rattle.mmt_frag.specs.Cuts.{part_length, parts}
-use Rattle.mmt_cast.specs.Placing.{PlacedUnit}
-use Rattle.mmt_cast.specs.Sending.{Sending}
-use Rattle.mmt_casting.specs.Numbered.{numbered_packets}
 use Rattle.mmt_casting.specs.declared.alone.Place.{Place}
 use Rattle.mmt_model.specs.Carrying.{numbers}
 use Rattle.mmt_model.specs.declared.casts.Carries.TheVariants as carries
@@ -27,8 +24,3 @@ alone_packet programme asset unit place k =
 -- all packets of a unit that is sent by itself
 abbrev pub alone_packets : Programme → Asset → PlannedUnit → Place → List Sent
 alone_packets programme asset unit place = map (alone_packet programme asset unit place) (numbers 0 (parts unit.length programme.limit))
-
--- the packets of a unit that is sent by itself are those of the sending, numbered from its first number on
-abbrev pub AloneIsSent : Type 0
-AloneIsSent = (programme : Programme) (x : PlacedUnit) (place : Place) → x.unit ≡ place.unit
-    → alone_packets programme x.in_mpu.in_asset x.value place ≡ numbered_packets programme (Sending.Alone place.u x) place.number

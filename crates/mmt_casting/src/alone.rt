@@ -76,10 +76,3 @@ pub(crate) fn put_alone(
     }
     Ok(())
 }
-
-ghost use Rattle.mmt_casting.specs.Alone.{AloneIsSent};
-
-/// The packets of a unit that is sent by itself are those of its sending.
-pub fn alone_is_sent()
-    ensures { AloneIsSent }
-{}
