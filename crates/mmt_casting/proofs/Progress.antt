@@ -170,9 +170,9 @@ sent-next programme right s next g number run packets packets' units units' is l
       is = split ∙ (sym (append_assoc sent.done (x ∷ []) rest) ∙ ap (λ u. (sent.done ++ x ∷ []) ++ sendings_from programme u) (sym place));
       packets_are = ep ∙ (ap (λ ps. ps ++ numbered_packets programme x number) sent.packets_are ∙ packets-more programme sent.done x number b);
       units_are = eu
-      ∙ (ap₂ (λ us r. us ++ units_by programme r s.unit_place g.size) sent.units_are er
-      ∙ (sym (units-more programme s.unit_place g.size number x (λ k lo hi. unit-sent-is programme k number sent.done rest x (unit_at programme k) split (covers programme s g k group lo hi) some b))
-      ∙ ap (units_before programme) (sym place)));
+          ∙ (ap₂ (λ us r. us ++ units_by programme r s.unit_place g.size) sent.units_are er
+          ∙ (sym (units-more programme s.unit_place g.size number x (λ k lo hi. unit-sent-is programme k number sent.done rest x (unit_at programme k) split (covers programme s g k group lo hi) some b))
+          ∙ ap (units_before programme) (sym place)));
       own = λ ln. ⊎_elim
           (λ (same : next.asset ≡ s.asset).
           ap (λ i. count_of_id i (flat programme (sent.done ++ x ∷ []))) (ap (λ a. (asset_at programme a).packet_id) same ∙ sym id)

@@ -285,9 +285,9 @@ group-is programme s g h is l eh es eb =
     record {
       size = sym group;
       sending = ap (λ n. sending_of_units s.unit_place n (unit_at programme s.unit_place) (drop (s.unit_place + 1) (all_units programme))) group
-      ∙ (ap₂ (sending_of_units s.unit_place g.size) u.is u.rest
-      ∙ (sending-is programme s.unit_place g.size g.bytes m s.unit placed x ys later size bytes
-      ∙ ap (λ y. cond (nat_lt 1 g.size) (Sending.Group s.unit_place g.size y g.bytes) (Sending.Alone s.unit_place y)) (sym u.is)));
+          ∙ (ap₂ (sending_of_units s.unit_place g.size) u.is u.rest
+          ∙ (sending-is programme s.unit_place g.size g.bytes m s.unit placed x ys later size bytes
+          ∙ ap (λ y. cond (nat_lt 1 g.size) (Sending.Group s.unit_place g.size y g.bytes) (Sending.Alone s.unit_place y)) (sym u.is)));
       some = omega (arith, fit.0, size);
       within = omega (arith, fit.1, size, length-drop (s.unit + 1) units, (is.inside l).1);
       short = omega (arith, bytes, bytes-fit (header_of placed) programme.limit x ys);

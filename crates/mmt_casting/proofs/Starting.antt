@@ -56,11 +56,12 @@ at-start (x ∷ xs) n zero b la lb =
     let own : List PlacedMpu = map_from (placed_in n x) 0 x.mpus in
     let long = length-map_from (placed_in n x) 0 x.mpus in
     let z : 0 + b ≡ b = omega arith in
-    let y : n ≡ n + 0 = omega arith in
-    (omega (arith, lb, long, length-append own (flat_map_from mpus_of (n + 1) xs)),
-    ap (λ k. get_or (own ++ flat_map_from mpus_of (n + 1) xs) k no_placed_mpu) z
-    ∙ (get-left own (flat_map_from mpus_of (n + 1) xs) b no_placed_mpu (omega (arith, lb, long))
-    ∙ (at-map_from_0 (placed_in n x) x.mpus b no_mpu no_placed_mpu lb ∙ ap (λ m. placed_in m x b (get_or x.mpus b no_mpu)) y)))
+    let y : n ≡ n + 0 = omega arith in (
+      omega (arith, lb, long, length-append own (flat_map_from mpus_of (n + 1) xs)),
+      ap (λ k. get_or (own ++ flat_map_from mpus_of (n + 1) xs) k no_placed_mpu) z
+          ∙ (get-left own (flat_map_from mpus_of (n + 1) xs) b no_placed_mpu (omega (arith, lb, long))
+          ∙ (at-map_from_0 (placed_in n x) x.mpus b no_mpu no_placed_mpu lb ∙ ap (λ m. placed_in m x b (get_or x.mpus b no_mpu)) y)),
+    )
 at-start (x ∷ xs) n (suc a) b la lb =
     let own : List PlacedMpu = map_from (placed_in n x) 0 x.mpus in
     let later : List PlacedMpu = flat_map_from mpus_of (n + 1) xs in
@@ -69,11 +70,12 @@ at-start (x ∷ xs) n (suc a) b la lb =
     let r = at-start xs (n + 1) a b (omega arith) lb in
     let e = sum_by-cons (λ (y : Asset). length y.mpus) x (take a xs) in
     let i : sum_by (λ (y : Asset). length y.mpus) (x ∷ take a xs) + b ≡ length own + (s + b) = omega (arith, e, long) in
-    let t : n + 1 + a ≡ n + suc a = omega arith in
-    (omega (arith, i, r.0, length-append own later),
-    ap (λ k. get_or (own ++ later) k no_placed_mpu) i
-    ∙ (get-right own later (s + b) no_placed_mpu
-    ∙ (r.1 ∙ ap (λ m. placed_in m (get_or xs a no_asset) b (get_or (get_or xs a no_asset).mpus b no_mpu)) t)))
+    let t : n + 1 + a ≡ n + suc a = omega arith in (
+      omega (arith, i, r.0, length-append own later),
+      ap (λ k. get_or (own ++ later) k no_placed_mpu) i
+          ∙ (get-right own later (s + b) no_placed_mpu
+          ∙ (r.1 ∙ ap (λ m. placed_in m (get_or xs a no_asset) b (get_or (get_or xs a no_asset).mpus b no_mpu)) t)),
+    )
 
 -- the place of a name
 pub place-is : (programme : Programme) (name : ℕ × ℕ) → IsKnown programme.assets name → start_of programme name.0 + name.1 ≡ place_of_mpu (all_mpus programme) name

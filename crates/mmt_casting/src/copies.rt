@@ -110,10 +110,7 @@ fn put_copy(copies: &mut Vec<TableCopy>, copy: Option<TableCopy>) -> Result<(), 
 }
 
 /// The table copies of a programme.
-pub(crate) fn copies_of(
-    alloc: Global,
-    programme: &Programme,
-) -> Result<Vec<TableCopy>, OutOfMemory>
+pub(crate) fn copies_of(alloc: Global, programme: &Programme) -> Result<Vec<TableCopy>, OutOfMemory>
     requires right { IsRight programme.now }
     requires none { refusal programme.now ≡ None }
     ensures { IfOk result (λ copies. copies.items ≡ copies_as_sent programme.now) }

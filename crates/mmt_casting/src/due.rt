@@ -23,7 +23,13 @@ fn au_time(mpu: &Mpu, timescale: u32, place: usize) -> Ntp
     for i in 0..place {
         before += aus[i].pts as u32;
     }
-    match time_at(mpu.time, mpu.decoding_offset, before, aus[place].dts_pts, timescale) {
+    match time_at(
+        mpu.time,
+        mpu.decoding_offset,
+        before,
+        aus[place].dts_pts,
+        timescale,
+    ) {
         Some(time) => time,
         None => mpu.time,
     }
@@ -65,7 +71,13 @@ pub(crate) fn last_time(mpu: &Mpu, timescale: u32) -> Ntp
     let mut before = 0u32;
     let mut last = mpu.time;
     for i in 0..aus.len() {
-        match time_at(mpu.time, mpu.decoding_offset, before, aus[i].dts_pts, timescale) {
+        match time_at(
+            mpu.time,
+            mpu.decoding_offset,
+            before,
+            aus[i].dts_pts,
+            timescale,
+        ) {
             Some(time) => last = later_of(last, time),
             None => return last,
         }

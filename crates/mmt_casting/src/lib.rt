@@ -6,6 +6,8 @@ mod casting;
 mod copies;
 mod counting;
 mod due;
+#[cfg(test)]
+mod end_tests;
 mod ends;
 mod groups;
 mod media;
@@ -15,10 +17,14 @@ mod naming;
 mod places;
 mod ranges;
 mod refusing;
+#[cfg(test)]
+mod samples;
 mod sending;
 mod signalling;
 mod sorting;
 mod tables;
+#[cfg(test)]
+mod tests;
 mod units;
 mod walking;
 

@@ -16,13 +16,7 @@ fn earlier(last: LongTick, named: Option<LongTick>) -> LongTick
 {
     match named {
         None => last,
-        Some(other) => {
-            if last.0 <= other.0 {
-                last
-            } else {
-                other
-            }
-        }
+        Some(other) => { if last.0 <= other.0 { last } else { other } }
     }
 }
 

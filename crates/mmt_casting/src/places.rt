@@ -70,7 +70,11 @@ pub(crate) fn after(programme: &Programme, spot: Spot, size: u32) -> Spot
     let unit = spot.unit + size;
     let unit_place = spot.unit_place + size;
     if (unit as usize) < units {
-        Spot { unit, unit_place, ..spot }
+        Spot {
+            unit,
+            unit_place,
+            ..spot
+        }
     } else {
         first_after(spot, mpus, unit_place)
     }

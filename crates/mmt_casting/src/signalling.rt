@@ -47,10 +47,7 @@ fn put_message(
 }
 
 /// Appends the packets of the signalling messages.
-pub(crate) fn put_signalling(
-    out: &mut Vec<Sent>,
-    programme: &Programme,
-) -> Result<(), OutOfMemory>
+pub(crate) fn put_signalling(out: &mut Vec<Sent>, programme: &Programme) -> Result<(), OutOfMemory>
     requires right { IsRight programme.now }
     requires none { refusal programme.now ≡ None }
     requires empty { out.old.items ≡ [] }

@@ -8,7 +8,7 @@ use Rattle.mmt_casting.proofs.due.au_time.Goals as goal
 pub loop-i-init : goal.loop-i-init
 loop-i-init c = record {
   at = ap (λ xs. get_or (times_from c.args.mpu.now.time.0 c.args.mpu.now.decoding_offset c.args.timescale 0 0 xs) c.args.place None) (sym c.as_slice-aus.ensures)
-  ∙ ap (λ k. get_or (times_from c.args.mpu.now.time.0 c.args.mpu.now.decoding_offset c.args.timescale 0 0 c.as_slice-aus.result.now) k None) (omega arith);
+      ∙ ap (λ k. get_or (times_from c.args.mpu.now.time.0 c.args.mpu.now.decoding_offset c.args.timescale 0 0 c.as_slice-aus.result.now) k None) (omega arith);
   before = omega arith;
 }
 

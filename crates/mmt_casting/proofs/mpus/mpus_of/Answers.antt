@@ -38,7 +38,7 @@ loop-spot-preserved c =
       first = w.0;
       mpus = added-more (mpu_sent_at c.args.programme.now) 0 c.loop-spot.spot.mpu_place [] c.loop-spot.mpus.items c.push.new.self.items c.sent_mpu.result c.loop-spot.invariant.mpus c.in_ok-push.ensures.items
           (c.sent_mpu.ensures ∙ ap (mpu_sent_at c.args.programme.now) z)
-      ∙ ap (λ m. map (mpu_sent_at c.args.programme.now) (numbers 0 m)) (sym w.1);
+          ∙ ap (λ m. map (mpu_sent_at c.args.programme.now) (numbers 0 m)) (sym w.1);
       places = omega (arith, w.1, (mpu-here c.args.programme.now c.loop-spot.spot c.loop-spot.invariant.spot inside).0);
       within = omega (arith, f.room, n, c.loop-spot.invariant.first, c.after-spot.ensures.place, (c.loop-spot.invariant.spot.inside inside).1);
     }
