@@ -1,0 +1,2 @@
+-- What a shelf shows.
+use Rattle.std.proofs.Common.{◌≡◌, ℕ}

@@ -1,0 +1,8 @@
+//! The stream of an admitted cast, written packet by packet.
+#![tactic(auto)]
+
+mod ends;
+mod files;
+mod sources;
+
+pub use ends::SendEnd;
