@@ -31,11 +31,11 @@ pub record IsSource (programme : Programme) (source : Source) : Type 0 where
   pub name : source.name.now ≡ get_or programme.files (unit_at programme source.number).in_mpu.in_asset.file []
 
 -- the file of a unit is absent or ends before the unit does: the unit's length, and how many of its bytes the file has
-pub record IsUnitShort (programme : Programme) (files : ℕ → List ℕ) (unit len got : ℕ) : Type 0 where
+pub record IsUnitShort (programme : Programme) (files : ℕ → List ℕ) (unit size held : ℕ) : Type 0 where
   pub known : unit < length (all_units programme)
-  pub len : len ≡ (unit_at programme unit).value.length
-  pub got : got ≡ length (unit_bytes files (unit_at programme unit))
-  pub short : got < len
+  pub len : size ≡ (unit_at programme unit).value.length
+  pub got : held ≡ length (unit_bytes files (unit_at programme unit))
+  pub short : held < size
 
 -- why a packet of the stream is not made: a read failed, so the count of faults rose; a unit is short, where the shelf tells its files; or out of memory. It is never a write
 abbrev pub HasCause : Programme → Bool → (List ℕ → Option (List ℕ)) → ℕ → ℕ → SendEnd → Type 0

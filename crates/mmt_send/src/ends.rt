@@ -23,6 +23,7 @@ pub enum SendEnd {
 }
 
 impl From<OutOfMemory> for SendEnd {
+    ghost use Rattle.std.specs.Prelude.{◌≡◌};
     ghost use Rattle.mmt_send.specs.declared.ends.SendEnd.TheVariants as ends;
 
     ghost from_gives = { λ _ e. e ≡ ends.OutOfMemory };

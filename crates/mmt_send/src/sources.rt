@@ -20,21 +20,26 @@ pub struct Source<'a> {
 }
 
 /// The unit of a number in the cast of a programme.
-pub fn source<'a>(programme: &'a Programme, cast: &Cast, number: u32) -> Source<'a>
+pub fn source_of<'a>(programme: &'a Programme, cast: &Cast, number: u32) -> Source<'a>
     requires right { IsRight programme.now }
     requires cast { cast.now ≡ cast_of programme.now }
     requires known { number < length (all_units programme.now) }
     ensures number { result.number ≡ number }
     ensures source { IsSource programme.now result }
 {
-    let sent = &cast.units.as_slice()[number as usize];
-    let asset = &programme.assets.as_slice()[sent.asset as usize];
-    let mpu = &asset.mpus.as_slice()[sent.mpu as usize];
+    let sent_units = cast.units.as_slice();
+    let sent = sent_units[number as usize];
+    let assets = programme.assets.as_slice();
+    let asset = &assets[sent.asset as usize];
+    let mpus = asset.mpus.as_slice();
+    let mpu = &mpus[sent.mpu as usize];
+    let units = mpu.units.as_slice();
+    let files = programme.files.as_slice();
     Source {
         number,
         timed: asset.timed,
         mpu: mpu.number,
-        unit: &mpu.units.as_slice()[sent.unit as usize],
-        name: programme.files.as_slice()[asset.file as usize].as_str(),
+        unit: &units[sent.unit as usize],
+        name: files[asset.file as usize].as_str(),
     }
 }

@@ -1,2 +1,0 @@
--- What a shelf shows.
-use Rattle.std.proofs.Common.{◌≡◌, ℕ}
