@@ -1,11 +1,10 @@
 //! The TLV packets of one flow, call by call.
 
-ghost use Rattle.std.specs.Prelude.{◌≡◌, ◌+◌, ◌≤◌, ◌<◌, ◌^◌, ◌≢◌, ◌++◌, ℕ, [], length, OnOk, OnErr};
-ghost use Rattle.mmt_ctx.specs.Squeezing.{IsAtCall};
+ghost use Rattle.std.specs.Prelude.{◌≡◌, ◌+◌, ◌≤◌, ◌<◌, ℕ, [], length, IfOk, OnOk};
 ghost use Rattle.mmt_model.specs.Right.{IsRight};
 ghost use Rattle.mmt_sent.specs.Packets.{Addressing, addressed};
 ghost use Rattle.mmt_sent.specs.Stream.{addressing_of};
-ghost use Rattle.mmt_send.specs.Calls.{IsAt};
+ghost use Rattle.mmt_send.specs.Calls.{FitsLabel, HasCall, IsAt};
 ghost use Rattle.mmt_tlv.specs.Framing.{spelling};
 
 use mmt_base::OutOfMemory;
@@ -41,7 +40,8 @@ impl Addresser {
     /// How the packets of a programme are addressed, before the first.
     pub fn new(programme: &Programme) -> Addresser
         requires { IsRight programme.now }
-        ensures { IsAt (addressing_of programme.now) 0 result }
+        ensures at { IsAt (addressing_of programme.now) 0 result }
+        ensures label { FitsLabel result }
     {
         let header = header_of(programme);
         if programme.full_every == 0 {
@@ -55,11 +55,17 @@ impl Addresser {
         }
     }
 
-    // Appends the body of the next packet, and answers its TLV packet type (ARIB STD-B32 Part 3).
+    // Writes the body of the next packet into an empty vector, and answers its TLV packet type (ARIB STD-B32
+    // Part 3).
     fn body(&mut self, out: &mut Vec<u8>, payload: &[u8]) -> Result<u8, OutOfMemory>
+        requires label { FitsLabel self.old }
+        requires call { HasCall self.old }
         requires short { length payload.now ≤ 65000 }
         requires empty { out.old.items ≡ [] }
-        ensures body { OnOk result ((a : Addressing) (call : ℕ) → IsAt a call self.old → (out.new.items ≡ (addressed a call payload.now).body) × IsAt a (call + 1) self.new) }
+        ensures label { FitsLabel self.new }
+        ensures long { OnOk result (length out.new.items < 65536) }
+        ensures body { IfOk result (λ kind. (a : Addressing) (call : ℕ) → IsAt a call self.old → addressed a call payload.now ≡ record { kind = kind; body = out.new.items }) }
+        ensures next { OnOk result ((a : Addressing) (call : ℕ) → IsAt a call self.old → IsAt a (call + 1) self.new) }
     {
         match self {
             Addresser::Plain(header) => {
@@ -76,5 +82,34 @@ impl Addresser {
                 Ok(3)
             }
         }
+    }
+
+    /// Writes the next packet over what `out` had: a UDP payload as a TLV packet (ARIB STD-B32 Part 3). `body`
+    /// is room for its body.
+    ///
+    /// # Errors
+    ///
+    /// `OutOfMemory`.
+    pub fn packet(
+        &mut self,
+        out: &mut Vec<u8>,
+        body: &mut Vec<u8>,
+        payload: &[u8],
+    ) -> Result<(), OutOfMemory>
+        requires label { FitsLabel self.old }
+        requires call { HasCall self.old }
+        requires short { length payload.now ≤ 65000 }
+        ensures label { FitsLabel self.new }
+        ensures packet { OnOk result ((a : Addressing) (call : ℕ) → IsAt a call self.old → out.new.items ≡ spelling (addressed a call payload.now)) }
+        ensures next { OnOk result ((a : Addressing) (call : ℕ) → IsAt a call self.old → IsAt a (call + 1) self.new) }
+    {
+        body.clear();
+        let kind = self.body(body, payload)?;
+        out.clear();
+        let tlv = Tlv {
+            kind,
+            body: body.as_slice(),
+        };
+        write_tlv(out, &tlv)
     }
 }
