@@ -1,3 +1,4 @@
 pub mod Standing
 pub mod FileReads
 pub mod Addressed
+pub mod Lone

@@ -5,5 +5,6 @@ mod addressing;
 mod ends;
 mod files;
 mod sources;
+mod units;
 
 pub use ends::SendEnd;
