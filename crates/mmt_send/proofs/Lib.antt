@@ -2,3 +2,4 @@ pub mod Standing
 pub mod FileReads
 pub mod Addressed
 pub mod Lone
+pub mod Groups
