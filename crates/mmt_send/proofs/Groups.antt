@@ -180,3 +180,90 @@ gathered-more programme tells file f k first source before now later writer next
           ap (λ (v : UnitValue). us ++ v ∷ []) own ∙ ap (λ (vs : List UnitValue). vs ++ as_unit ((contents_sent programme (files_on file programme)).data_unit (f + k)) ∷ []) (so_far.told t)
           ∙ sym (ap (map as_unit) (mapped-more (contents_sent programme (files_on file programme)).data_unit f k) ∙ map-append as_unit (map (contents_sent programme (files_on file programme)).data_unit (numbers f k)) ((contents_sent programme (files_on file programme)).data_unit (f + k) ∷ [])));
     }
+
+-- ---- under the header that a writer keeps
+
+-- the header is that of a group's first unit
+pub record IsUnder (programme : Programme) (f : ℕ) (head : MpuHead) : Type 0 where
+  pub first : Source
+  pub is : IsSource programme first
+  pub at : first.number ≡ f
+  pub same : head ≡ group_head first
+
+pub under-begun : (programme : Programme) (f : ℕ) (first : Source) (head : MpuHead) (before : List ℕ) (writer : Kept) → IsSource programme first → first.number ≡ f → head ≡ group_head first
+    → writer ≡ record { start = length before; head = head; units = 0; bytes = 8 } → IsUnder programme f writer.head
+under-begun programme f first head before writer is at same w = record { first = first; is = is; at = at; same = ap (λ (k : Kept). k.head) w ∙ same }
+
+pub gathered-begun : (programme : Programme) (tells : Bool) (file : List ℕ → Option (List ℕ)) (f : ℕ) (head : MpuHead) (before now : List ℕ) (writer : Kept)
+    → now ≡ begun before head → writer ≡ record { start = length before; head = head; units = 0; bytes = 8 } → length now ≡ writer.start + writer.bytes → IsGathered programme tells file f 0 writer.head before now writer
+gathered-begun programme tells file f head before now writer e w p =
+    subst (λ (h : MpuHead). IsGathered programme tells file f 0 h before now writer) (sym (ap (λ (k : Kept). k.head) w)) (gathered-none programme tells file f head before now writer e w p)
+
+-- the next unit of a group may be written
+pub record MayGo (writer : Kept) (u : UnitValue) : Type 0 where
+  pub kind : FitsKind writer.head.timed u.head
+  pub len : writer.bytes + unit_length writer.head.aggregated writer.head.timed u ≤ 65537
+
+pub may-go : (programme : Programme) (tells : Bool) (file : List ℕ → Option (List ℕ)) (f c k : ℕ) (source : Source) (before now : List ℕ) (writer : Kept) (bytes : List ℕ) → IsRight programme → IsGroup programme f c → k < c
+    → IsUnder programme f writer.head → IsGathered programme tells file f k writer.head before now writer → IsSource programme source → source.number ≡ f + k → length bytes ≡ source.unit.now.length → MayGo writer (next_unit source bytes)
+may-go programme tells file f c k source before now writer bytes right group below under so_far is here l =
+    let first : Source = under.first in
+    let member : IsMember programme first source = is-member programme f c k first source right group below under.is under.at is here in
+    let size : own_size (unit_at programme (f + k)) ≡ unit_length true first.timed (next_unit source bytes) = ap (λ (n : ℕ). own_size (unit_at programme n)) (sym here) ∙ member.size ∙ ap (λ (n : ℕ). 2 + head_length first.timed + n) (sym l) in
+    let held : writer.bytes ≡ 8 + sizes programme f k = ap (λ (w : Kept). w.bytes) so_far.keeps ∙ so_far.long in
+    let all : sizes programme f (k + 1) ≤ sizes programme f c = sizes-below programme f (k + 1) c (omega arith) in
+    record {
+      kind = subst (λ (h : MpuHead). FitsKind h.timed (head_of source.unit.now)) (sym under.same) member.kind;
+      len = subst (λ (h : MpuHead). writer.bytes + unit_length h.aggregated h.timed (next_unit source bytes) ≤ 65537) (sym under.same) (omega (arith, held, size, sizes-more programme f k, all, group.short, right.limit));
+    }
+
+pub gathered-next : (programme : Programme) (tells : Bool) (file : List ℕ → Option (List ℕ)) (f c k : ℕ) (source : Source) (before now later : List ℕ) (writer next : Kept) (bytes : List ℕ) → IsRight programme → IsGroup programme f c → k < c
+    → IsUnder programme f writer.head → IsGathered programme tells file f k writer.head before now writer → IsSource programme source → source.number ≡ f + k → length bytes ≡ source.unit.now.length
+    → (IsTrue tells → bytes ≡ unit_bytes (files_on file programme) (unit_at programme source.number))
+    → later ≡ now ++ written_unit writer.head.aggregated writer.head.timed (next_unit source bytes)
+    → next ≡ record { start = writer.start; head = writer.head; units = writer.units + 1; bytes = writer.bytes + unit_length writer.head.aggregated writer.head.timed (next_unit source bytes) }
+    → length later ≡ next.start + next.bytes → IsGathered programme tells file f (k + 1) next.head before later next
+gathered-next programme tells file f c k source before now later writer next bytes right group below under so_far is here l read added kept place =
+    let first : Source = under.first in
+    let member : IsMember programme first source = is-member programme f c k first source right group below under.is under.at is here in
+    let heads : next.head ≡ group_head first = ap (λ (w : Kept). w.head) kept ∙ under.same in
+    subst (λ (h : MpuHead). IsGathered programme tells file f (k + 1) h before later next) (sym heads)
+    (gathered-more programme tells file f k first source before now later writer next bytes (subst (λ (h : MpuHead). IsGathered programme tells file f k h before now writer) under.same so_far) member is here l read added kept place)
+
+pub under-next : (programme : Programme) (f : ℕ) (writer next : Kept) (u : UnitValue) → IsUnder programme f writer.head
+    → next ≡ record { start = writer.start; head = writer.head; units = writer.units + 1; bytes = writer.bytes + unit_length writer.head.aggregated writer.head.timed u } → IsUnder programme f next.head
+under-next programme f writer next u under kept = subst (IsUnder programme f) (sym (ap (λ (w : Kept). w.head) kept)) under
+
+-- ---- all of them
+
+ended-long : (start bytes : ℕ) (out : List ℕ) → start + 2 ≤ length out → length (ended start bytes out) ≡ length out
+unfolding ended
+ended-long start bytes out l = simp (length-append, length_big_endian) (omega (arith, length-take start out, length-drop (start + 2) out))
+
+pub group-out-long : (programme : Programme) (tells : Bool) (file : List ℕ → Option (List ℕ)) (f c : ℕ) (before now out : List ℕ) (writer : Kept) → IsRight programme → IsGroup programme f c
+    → IsGathered programme tells file f c writer.head before now writer → out ≡ ended writer.start writer.bytes now → length out ≤ length before + 60022
+group-out-long programme tells file f c before now out writer right group so_far e =
+    let start : writer.start ≡ length before = ap (λ (w : Kept). w.start) so_far.keeps in
+    omega (arith, ap (λ (xs : List ℕ). length xs) e, ended-long writer.start writer.bytes now (omega (arith, so_far.place)), so_far.place, group.short, right.limit)
+
+pub group-out : (programme : Programme) (cast : Cast) (tells : Bool) (file : List ℕ → Option (List ℕ)) (f c : ℕ) (before now out : List ℕ) (writer : Kept) → CallsWriteThePayload → HasCast programme cast
+    → IsUnder programme f writer.head → IsGathered programme tells file f c writer.head before now writer → out ≡ ended writer.start writer.bytes now → IsTrue tells
+    → out ≡ before ++ bytes_of (written cast (contents_sent programme (files_on file programme)) (carries.Group f c))
+unfolding written contents_of
+group-out programme cast tells file f c before now out writer calls job under so_far e t =
+    let files : ℕ → List ℕ = files_on file programme in
+    let first : Source = under.first in
+    let us : List UnitValue = so_far.units in
+    let start : writer.start ≡ length before = ap (λ (w : Kept). w.start) so_far.keeps in
+    let bytes : writer.bytes ≡ total_length writer.head us = ap (λ (w : Kept). w.bytes) so_far.keeps in
+    let mpu : first.mpu ≡ (entry_of_unit cast (contents_sent programme files) f).mpu = source-mpu programme cast files first job.is under.is ∙ ap (λ (u : ℕ). (entry_of_unit cast (contents_sent programme files) u).mpu) under.at in
+    let timed : first.timed ≡ (unit_at programme f).in_mpu.in_asset.timed = under.is.timed ∙ ap (λ (u : ℕ). (unit_at programme u).in_mpu.in_asset.timed) under.at in
+    e ∙ ap (λ (n : ℕ). ended n writer.bytes now) start ∙ ap (λ (n : ℕ). ended (length before) n now) bytes ∙ ap (ended (length before) (total_length writer.head us)) so_far.out ∙ calls before writer.head us
+    ∙ ap (λ (vs : List UnitValue). before ++ spelling (record { head = writer.head; units = vs })) (so_far.told t)
+    ∙ ap (λ (h : MpuHead). before ++ spelling (record { head = h; units = members programme files f c })) under.same
+    ∙ ap (λ (b : Bool). before ++ spelling (record { head = record { timed = b; part = parts.Whole; aggregated = true; counter = 0; mpu = first.mpu }; units = members programme files f c })) timed
+    ∙ ap (λ (m : ℕ). before ++ spelling (record { head = record { timed = (unit_at programme f).in_mpu.in_asset.timed; part = parts.Whole; aggregated = true; counter = 0; mpu = m }; units = members programme files f c })) mpu
+
+-- where all have been written
+pub gathered-all : (programme : Programme) (tells : Bool) (file : List ℕ → Option (List ℕ)) (f k c : ℕ) (head : MpuHead) (before now : List ℕ) (writer : Kept) → k ≡ c → IsGathered programme tells file f k head before now writer → IsGathered programme tells file f c head before now writer
+gathered-all programme tells file f k c head before now writer e g = subst (λ (n : ℕ). IsGathered programme tells file f n head before now writer) e g
