@@ -5,6 +5,7 @@ use Rattle.std.proofs.lemmas.List.Sums.{fold-append, sum_by-append, sum_by-cons}
 use Rattle.std.specs.List.{sum_by}
 use Rattle.mmt_cast.specs.Casting.{cast_of}
 use Rattle.mmt_cast.specs.FromRight.{FitsUnit}
+use Rattle.mmt_cast.proofs.FromRight.{all-counted}
 use Rattle.mmt_cast.specs.Placing.{PlacedMpu, PlacedUnit, all_units}
 use Rattle.mmt_cast.specs.Right.{contents_of, unit_at, unit_bytes}
 use Rattle.mmt_cast.specs.Sending.{header_length}
@@ -82,7 +83,7 @@ kind-of timed h fits = go timed h.key fits.key fits.ranks
     go false (keys.Item i) k r = (tt, r.0, r.1)
 
 -- the header of a unit
-abbrev head_of : model.Unit → UnitHead
+abbrev pub head_of : model.Unit → UnitHead
 head_of unit = record { key = unit.key; priority = unit.priority; dependency = unit.dependency }
 
 -- a unit of a group, whose source it is
@@ -111,7 +112,7 @@ abbrev pub group_head : Source → MpuHead
 group_head first = record { timed = first.timed; part = parts.Whole; aggregated = true; counter = 0; mpu = first.mpu }
 
 -- the data units of the first units of a group
-abbrev members : Programme → (ℕ → List ℕ) → ℕ → ℕ → List UnitValue
+abbrev pub members : Programme → (ℕ → List ℕ) → ℕ → ℕ → List UnitValue
 members programme files f k = map as_unit (map (contents_sent programme files).data_unit (numbers f k))
 
 -- the first units of a group have been written, after what stood before
@@ -137,7 +138,7 @@ length-more : {X : Type 0} (xs : List X) (x : X) → length (xs ++ x ∷ []) ≡
 length-more xs x = length-append xs (x ∷ [])
 
 -- the unit that is written next
-abbrev next_unit : Source → List ℕ → UnitValue
+abbrev pub next_unit : Source → List ℕ → UnitValue
 next_unit source bytes = record { head = head_of source.unit.now; from = 0; bytes = bytes }
 
 member-is : (programme : Programme) (files : ℕ → List ℕ) (source : Source) (bytes : List ℕ) → IsSource programme source → bytes ≡ unit_bytes files (unit_at programme source.number)
@@ -267,3 +268,44 @@ group-out programme cast tells file f c before now out writer calls job under so
 -- where all have been written
 pub gathered-all : (programme : Programme) (tells : Bool) (file : List ℕ → Option (List ℕ)) (f k c : ℕ) (head : MpuHead) (before now : List ℕ) (writer : Kept) → k ≡ c → IsGathered programme tells file f k head before now writer → IsGathered programme tells file f c head before now writer
 gathered-all programme tells file f k c head before now writer e g = subst (λ (n : ℕ). IsGathered programme tells file f n head before now writer) e g
+
+-- ---- the bytes of a unit of a group
+
+pub record Member (programme : Programme) (f k : ℕ) (source : Source) : Type 0 where
+  pub place : f + k < 2 ^ 32
+  pub some : 1 ≤ source.unit.now.length
+  pub short : source.unit.now.length ≤ programme.limit
+
+few-units : (programme : Programme) → IsRight programme → length (all_units programme) < 2 ^ 32
+few-units programme right = omega (arith, right.few_units, all-counted programme)
+
+pub place-fits : (programme : Programme) (f c k : ℕ) → IsRight programme → IsGroup programme f c → k < c → f + k < 2 ^ 32
+place-fits programme f c k right group below = omega (arith, few-units programme right, group.known)
+
+pub place-known : (programme : Programme) (f c k : ℕ) → IsGroup programme f c → k < c → f + k < length (all_units programme)
+place-known programme f c k group below = omega (arith, group.known)
+
+pub member-fits : (programme : Programme) (f c k : ℕ) (source : Source) → IsRight programme → IsGroup programme f c → k < c → IsSource programme source → source.number ≡ f + k → Member programme f k source
+member-fits programme f c k source right group below is here =
+    let size : source.unit.now.length ≡ (unit_at programme (f + k)).value.length = ap (λ (u : model.Unit). u.length) is.unit ∙ ap (λ (u : ℕ). (unit_at programme u).value.length) here in
+    let fits : FitsUnit programme (unit_at programme source.number) = unit-fits programme source.number right is.known in
+    record {
+      place = place-fits programme f c k right group below;
+      some = omega (arith, fits.some, ap (λ (u : model.Unit). u.length) is.unit);
+      short = omega (arith, size, sizes-more programme f k, sizes-below programme f (k + 1) c (omega arith), group.short);
+    }
+
+-- the bytes of a unit that was read whole into the front of a buffer
+pub whole-unit : (programme : Programme) (file : List ℕ → Option (List ℕ)) (source : Source) (old new : List ℕ) → IsSource programme source → source.unit.now.length ≤ length old → length new ≡ length (take source.unit.now.length old)
+    → new ≡ take (length (take source.unit.now.length old)) (drop 0 (bytes_of_unit (bytes_in (file source.name.now)) source.unit.now))
+    → take source.unit.now.length (new ++ drop source.unit.now.length old) ≡ unit_bytes (files_on file programme) (unit_at programme source.number)
+whole-unit programme file source old new is fits l read =
+    let n : ℕ = source.unit.now.length in
+    let all : List ℕ = bytes_of_unit (bytes_in (file source.name.now)) source.unit.now in
+    let count : length (take n old) ≡ n = front-long n old fits in
+    let short : length all ≤ length (take n old) = omega (arith, count, length-take n (drop source.unit.now.from (bytes_in (file source.name.now)))) in
+    read-front n old new l fits ∙ read ∙ take_all (length (take n old)) all short ∙ source-bytes programme file source is
+
+-- a buffer keeps its length
+pub front-kept : (n : ℕ) (old new : List ℕ) → n ≤ length old → length new ≡ length (take n old) → length (new ++ drop n old) ≡ length old
+front-kept n old new fits l = omega (arith, length-append new (drop n old), length-drop n old, length-take n old, l)

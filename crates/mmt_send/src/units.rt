@@ -4,6 +4,7 @@ ghost use Rattle.std.specs.Prelude.{◌≡◌, ◌+◌, ◌*◌, ◌<◌, ◌≤
 ghost use Rattle.mmt_cast.specs.Casting.{cast_of};
 ghost use Rattle.mmt_cast.specs.Placing.{all_units};
 ghost use Rattle.mmt_cast.specs.Right.{unit_at};
+ghost use Rattle.mmt_mpu.specs.Head.{view_unit};
 ghost use Rattle.mmt_plan.specs.Plan.{Stays};
 ghost use Rattle.mmt_send.specs.Carried.{HasCast, IsGroup, lone_written};
 ghost use Rattle.mmt_send.specs.Files.{files_on, HasCause};
@@ -83,11 +84,7 @@ pub struct Several {
 
 // A data unit with these bytes. The place of its bytes is not written.
 fn data_of<'a>(source: &Source<'_>, bytes: &'a [u8]) -> DataUnit<'a>
-    ensures key { result.key ≡ source.now.unit.now.key }
-    ensures priority { result.priority ≡ source.now.unit.now.priority }
-    ensures dependency { result.dependency ≡ source.now.unit.now.dependency }
-    ensures from { result.from ≡ 0 }
-    ensures bytes { result.bytes.now ≡ bytes.now }
+    ensures { view_unit result ≡ record { head = record { key = source.now.unit.now.key; priority = source.now.unit.now.priority; dependency = source.now.unit.now.dependency }; from = 0; bytes = bytes.now } }
 {
     DataUnit {
         key: source.unit.key,
