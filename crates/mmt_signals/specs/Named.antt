@@ -1,0 +1,39 @@
+-- The MPUs that a table names, asset by asset.
+use Rattle.std.specs.Prelude.{ℕ, ◌==◌, ◌<◌, ◌≤◌, Bool, List, [], ◌∷◌, length, map, get_or}
+use Rattle.std.specs.List.{All, filter}
+use Rattle.mmt_cast.specs.Placing.{PlacedMpu}
+use Rattle.mmt_cast.specs.Right.{no_mpu}
+use Rattle.mmt_cast.specs.SentTables.{sent_descriptors}
+use Rattle.mmt_model.specs.declared.programmes.Asset.{Asset}
+use Rattle.mmt_mpt.specs.Asset.{AssetValue}
+use Rattle.mmt_mpt.specs.Location.{IsHere}
+
+-- a name is that of an MPU of the asset at a place
+abbrev pub is_of : ℕ → ℕ × ℕ → Bool
+is_of a name = name.0 == a
+
+-- of these names those of the asset at a place, in their order
+abbrev pub names_of : ℕ → List (ℕ × ℕ) → List (ℕ × ℕ)
+names_of a names = filter (is_of a) names
+
+-- the MPU of an asset that a name stands for
+abbrev pub named_mpu : Asset → ℕ × ℕ → PlacedMpu
+named_mpu asset name = record { asset = name.0; mpu = name.1; in_asset = asset; value = get_or asset.mpus name.1 no_mpu }
+
+-- the MPUs of an asset that these names stand for
+abbrev pub named : Asset → List (ℕ × ℕ) → List PlacedMpu
+named asset names = map (named_mpu asset) names
+
+-- an asset has the MPUs that these names stand for
+abbrev pub HasAll : Asset → List (ℕ × ℕ) → Type 0
+HasAll asset names = All (λ name. name.1 < length asset.mpus) names
+
+-- an asset's lengths fit their fields in a table: its id has at most 255 bytes, and each of its MPUs at most 60 access units (ARIB STD-B60, MMT Package Table; this project's rule for a plan)
+pub record FitsIn (asset : Asset) : Type 0 where
+  pub id : length asset.id ≤ 255
+  pub aus : All (λ m. length m.aus ≤ 60) asset.mpus
+
+-- an asset in a table in which these of its MPUs are named
+unfoldable pub listed_asset : Asset → List PlacedMpu → AssetValue
+listed_asset asset mpus =
+    record { identifier_type = 0; scheme = 0; id = asset.id; kind = asset.kind; reserved = 127; locations = IsHere asset.packet_id ∷ []; descriptors = sent_descriptors mpus }

@@ -1,0 +1,4 @@
+//! The bytes of the signalling messages that are sent of a programme.
+#![tactic(auto)]
+
+mod descriptors;
