@@ -3,7 +3,10 @@ use Rattle.std.specs.Prelude.{ℕ, ◌==◌, ◌<◌, ◌≤◌, Bool, List, [],
 use Rattle.std.specs.List.{All, filter}
 use Rattle.mmt_cast.specs.Placing.{PlacedMpu}
 use Rattle.mmt_cast.specs.Right.{no_mpu}
-use Rattle.mmt_cast.specs.SentTables.{sent_descriptors}
+use Rattle.mmt_cast.specs.SentTables.{sent_descriptors, stamps_of_21}
+use Rattle.mmt_model.specs.Carrying.{numbers}
+use Rattle.std.specs.Int.{div_ceil}
+use Rattle.mmt_mpt.specs.Descriptor.{DescriptorValue}
 use Rattle.mmt_model.specs.declared.programmes.Asset.{Asset}
 use Rattle.mmt_mpt.specs.Asset.{AssetValue}
 use Rattle.mmt_mpt.specs.Location.{IsHere}
@@ -27,6 +30,10 @@ named asset names = map (named_mpu asset) names
 -- an asset has the MPUs that these names stand for
 abbrev pub HasAll : Asset → List (ℕ × ℕ) → Type 0
 HasAll asset names = All (λ name. name.1 < length asset.mpus) names
+
+-- the timestamp descriptors of these MPUs, each of at most 21 (this project's rule for what is sent)
+abbrev pub all_stamps : List PlacedMpu → List DescriptorValue
+all_stamps mpus = map (stamps_of_21 mpus) (numbers 0 (div_ceil (length mpus) 21))
 
 -- an asset's lengths fit their fields in a table: its id has at most 255 bytes, and each of its MPUs at most 60 access units (ARIB STD-B60, MMT Package Table; this project's rule for a plan)
 pub record FitsIn (asset : Asset) : Type 0 where

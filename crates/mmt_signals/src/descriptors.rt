@@ -20,7 +20,7 @@ const STAMPS_TAG: u16 = 0x0001;
 const EXTENDED_TAG: u16 = 0x8026;
 
 /// The MPU of an asset that a name stands for.
-fn named_mpu(asset: &Asset, name: (u32, u32)) -> &Mpu
+pub(crate) fn named_mpu(asset: &Asset, name: (u32, u32)) -> &Mpu
     requires { name.1 < length asset.now.mpus }
     ensures { result.now ≡ (mpu_of asset.now name).value }
 {
@@ -55,7 +55,7 @@ fn put_pairs(out: &mut Vec<u8>, asset: &Asset, names: &[(u32, u32)])
 
 /// Appends a timestamp descriptor of at most 21 MPUs (ARIB STD-B60, MPU timestamp descriptor).
 #[tactic(auto, using(std::proofs::Common::append_assoc, crate::proofs::Bytes::stamps_are))]
-fn put_stamps(out: &mut Vec<u8>, asset: &Asset, names: &[(u32, u32)])
+pub(crate) fn put_stamps(out: &mut Vec<u8>, asset: &Asset, names: &[(u32, u32)])
     requires few { length names.now ≤ 21 }
     requires known { HasAll asset.now names.now }
     requires room { vec_len out.old + 3 + 12 * length names.now ≤ vec_capacity out.old }
@@ -110,7 +110,7 @@ fn put_entry(out: &mut Vec<u8>, mpu: &Mpu)
 
 /// Appends the extended timestamp descriptor of an MPU, of type 2, with the timescale in units a second.
 #[tactic(auto, using(std::proofs::Common::append_assoc, crate::proofs::Bytes::extended_are))]
-fn put_extended(out: &mut Vec<u8>, timescale: u32, mpu: &Mpu)
+pub(crate) fn put_extended(out: &mut Vec<u8>, timescale: u32, mpu: &Mpu)
     requires few { length mpu.now.aus ≤ 60 }
     requires room { vec_len out.old + 16 + 4 * length mpu.now.aus ≤ vec_capacity out.old }
     ensures items { out.new.items ≡ out.old.items ++ descriptor_bytes (record { tag = extended_tag; bytes = extended_bytes (written_extended timescale mpu.now) }) }

@@ -2,3 +2,4 @@
 #![tactic(auto)]
 
 mod descriptors;
+mod named;
