@@ -8,18 +8,20 @@ use Rattle.std.proofs.lemmas.List.Sums.{sum_by-cons}
 use Rattle.mmt_cast.specs.Tables.{descriptors_length, extended_length}
 use Rattle.mmt_mpt.specs.Descriptor.{DescriptorValue}
 use Rattle.std.proofs.lemmas.List.{append-nil, drop-map, length-append, length-map, take-map}
-use Rattle.mmt_cast.proofs.Lengths.{extended-long, stamps-long}
+use Rattle.mmt_cast.proofs.Lengths.{descriptors-long, extended-long, stamps-long}
 use Rattle.mmt_cast.specs.Placing.{PlacedMpu}
-use Rattle.mmt_cast.specs.SentTables.{extended_of_mpu, pair_of, stamps_of_21}
+use Rattle.mmt_cast.specs.SentTables.{extended_of_mpu, pair_of, sent_descriptors, stamps_of_21}
 use Rattle.mmt_fields.proofs.Numbers.{length_big_endian}
 use Rattle.mmt_model.specs.Carrying.{numbers}
 use Rattle.mmt_fields.specs.Reading.{big_endian}
 use Rattle.mmt_model.specs.Right.{no_asset}
 use Rattle.mmt_model.specs.declared.programmes.Asset.{Asset}
 use Rattle.mmt_model.specs.declared.programmes.Mpu.{Mpu}
-use Rattle.mmt_mpt.specs.Descriptor.{descriptor_bytes, length_width}
-use Rattle.mmt_mpt.proofs.Sizes.{descriptor_long}
-use Rattle.mmt_signals.specs.Named.{all_stamps, named, named_mpu}
+use Rattle.mmt_mpt.specs.Descriptor.{descriptor_bytes, descriptors_bytes, length_width}
+use Rattle.mmt_mpt.proofs.Sizes.{asset_long, descriptor_long, location_long}
+use Rattle.mmt_mpt.specs.Asset.{asset_bytes, head_bytes}
+use Rattle.mmt_mpt.specs.Location.{IsHere, location_bytes}
+use Rattle.mmt_signals.specs.Named.{all_stamps, listed_asset, named, named_mpu}
 use Rattle.mmt_times.specs.Extended.{extended_bytes, extended_tag, mpu_bytes}
 use Rattle.mmt_times.specs.Stamps.{PairValue, stamps_bytes, stamps_tag}
 use Rattle.mmt_times.specs.Writing.{written_extended, written_mpu}
@@ -154,3 +156,33 @@ stamps_whole asset names = ap (λ n. stamps_from asset names 0 (div_ceil n 21)) 
 pub stamps_none : (asset : Asset) (names : List (ℕ × ℕ)) (k n : ℕ) → n ≤ k → stamps_from asset names k (n - k) ≡ []
 unfolding numbers
 stamps_none asset names k n l = let z : n - k ≡ 0 = omega arith in ap (λ m. stamps_from asset names k m) z
+
+-- ---- an asset
+
+stamps-then-extended : (mpus : List PlacedMpu) → flat_map descriptor_bytes (sent_descriptors mpus) ≡ flat_map descriptor_bytes (all_stamps mpus) ++ flat_map descriptor_bytes (flat_map extended_of_mpu mpus)
+unfolding sent_descriptors
+stamps-then-extended mpus = flat_map-append descriptor_bytes (all_stamps mpus) (flat_map extended_of_mpu mpus)
+
+-- what stands before an asset's descriptors
+abbrev asset_start : Asset → List ℕ
+asset_start asset = head_bytes (record { identifier_type = 0; scheme = 0; id = asset.id; kind = asset.kind; reserved = 127; count = 1 }) ++ location_bytes (IsHere asset.packet_id)
+
+pub asset_are : (asset : Asset) (mpus : List PlacedMpu)
+    → asset_bytes (listed_asset asset mpus)
+    ≡ head_bytes (record { identifier_type = 0; scheme = 0; id = asset.id; kind = asset.kind; reserved = 127; count = 1 }) ++ (location_bytes (IsHere asset.packet_id)
+    ++ (big_endian w16 (descriptors_length mpus) ++ (flat_map descriptor_bytes (all_stamps mpus) ++ flat_map descriptor_bytes (flat_map extended_of_mpu mpus))))
+unfolding asset_bytes listed_asset descriptors_bytes
+asset_are asset mpus =
+    let head : List ℕ = head_bytes (record { identifier_type = 0; scheme = 0; id = asset.id; kind = asset.kind; reserved = 127; count = 1 }) in
+    let here : List ℕ = location_bytes (IsHere asset.packet_id) in
+    ap (λ (l : List ℕ). head ++ (l ++ (big_endian w16 (length (flat_map descriptor_bytes (sent_descriptors mpus))) ++ flat_map descriptor_bytes (sent_descriptors mpus)))) (append-nil here)
+    ∙ (ap (λ n. head ++ (here ++ (big_endian w16 n ++ flat_map descriptor_bytes (sent_descriptors mpus)))) (descriptors-long mpus)
+    ∙ ap (λ (l : List ℕ). head ++ (here ++ (big_endian w16 (descriptors_length mpus) ++ l))) (stamps-then-extended mpus))
+
+pub asset_size_is : (asset : Asset) (mpus : List PlacedMpu) → length (asset_bytes (listed_asset asset mpus)) ≡ 17 + length asset.id + descriptors_length mpus
+unfolding listed_asset
+asset_size_is asset mpus =
+    omega (arith, asset_long (listed_asset asset mpus), location_long (IsHere asset.packet_id), length-append (location_bytes (IsHere asset.packet_id)) [], descriptors-long mpus)
+
+pub descriptors_parts : (mpus : List PlacedMpu) → length (flat_map descriptor_bytes (all_stamps mpus)) + length (flat_map descriptor_bytes (flat_map extended_of_mpu mpus)) ≡ descriptors_length mpus
+descriptors_parts mpus = sym (length-append (flat_map descriptor_bytes (all_stamps mpus)) (flat_map descriptor_bytes (flat_map extended_of_mpu mpus))) ∙ (ap length (sym (stamps-then-extended mpus)) ∙ descriptors-long mpus)

@@ -1,5 +1,6 @@
 //! The bytes of the signalling messages that are sent of a programme.
 #![tactic(auto)]
 
+mod assets;
 mod descriptors;
 mod named;
