@@ -8,3 +8,6 @@ mod messages;
 mod named;
 
 pub use messages::put_message;
+
+#[cfg(test)]
+mod tests;
