@@ -1,5 +1,6 @@
 -- The bytes of a table and of its message, field by field.
-use Rattle.std.proofs.Common.{◌≡◌, ℕ, ◌+◌, ◌-◌, ◌*◌, ◌%◌, ◌^◌, ◌<◌, ◌≤◌, Bool, true, false, List, [], ◌∷◌, ◌++◌, length, get_or, arith, refl, ap, sym, ◌∙◌, None}
+use Rattle.mmt_cast.specs.PlanOne.{plan_one}
+use Rattle.std.proofs.Common.{◌≡◌, ℕ, zero, suc, ◌+◌, ◌-◌, ◌*◌, ◌%◌, ◌^◌, ◌<◌, ◌≤◌, Bool, true, false, List, [], ◌∷◌, ◌++◌, length, get_or, arith, refl, ap, sym, ◌∙◌, None}
 use Rattle.std.specs.Int.{w8, w16, w32}
 use Rattle.std.specs.List.{All, AllByRecursion, flat_map, sum_by}
 use Rattle.std.proofs.lemmas.List.{get_or_default, length-append}
@@ -133,3 +134,11 @@ pub params_message : (programme : Programme) (at : ℕ) (tick : LongTick) → si
     → message_bytes programme at ≡ message_spelling (HrbmMessage (record { version = 0; params = programme.params }))
 unfolding message_bytes message_of_signal
 params_message programme at tick is = ap (λ signal. message_spelling (message_of_signal programme at signal)) is
+
+-- ---- the worked plan
+
+pub none_before : (at : ℕ) → at < 2 → 0 ≡ tables_before plan_one at
+unfolding tables_before
+none_before zero l = refl
+none_before (suc zero) l = refl
+none_before (suc (suc n)) l = absurd (omega (arith, l))

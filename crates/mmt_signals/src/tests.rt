@@ -1,7 +1,7 @@
 //! Messages with bytes from outside.
 
-ghost use Rattle.std.specs.Prelude.{◌≡◌, [], ◌∷◌, IfOk};
-ghost use Rattle.mmt_cast.specs.PlanOne.{mpu_seven, plan_one, usual_signals};
+ghost use Rattle.std.specs.Prelude.{◌≡◌, ◌<◌, [], ◌∷◌, ◌++◌, IfOk};
+ghost use Rattle.mmt_cast.specs.PlanOne.{mpu_seven, plan_one, unit_with, usual_signals};
 
 use crate::put_message;
 use mmt_base::{LongTick, Ntp, OutOfMemory};
@@ -23,10 +23,13 @@ const TABLE: [u8; 80] = [
     0x80, 0x26, 21, 0xFD, 0, 0, 0xEA, 0x60, 0, 0, 0, 7, 0x3F, 3, 0xE9, 2, 3, 0xE9, 3, 0xE9, 7, 0xD2, 0, 0,
 ];
 
-fn unit(at: u64, from: u64, length: u32, sample: u32) -> Unit {
+/// A unit of timed media, so many ticks after the start.
+fn unit(tick: u32, from: u32, length: u32, sample: u32) -> Unit
+    ensures { result ≡ unit_with tick from length 1 sample }
+{
     Unit {
-        at: LongTick(at),
-        from,
+        at: LongTick(65_536_000 + tick as u64),
+        from: from as u64,
         length,
         key: UnitKey::Timed {
             movie_fragment: 1,
@@ -38,61 +41,92 @@ fn unit(at: u64, from: u64, length: u32, sample: u32) -> Unit {
     }
 }
 
+/// A list with one more byte.
+fn and(list: List<u8>, byte: u8) -> Result<List<u8>, OutOfMemory>
+    ensures { IfOk result (λ more. more ≡ list ++ byte ∷ []) }
+{
+    let mut list = list;
+    list.push(byte)?;
+    Ok(list)
+}
+
+/// Its MPU.
 fn mpu(alloc: Global) -> Result<Mpu, OutOfMemory>
     ensures { IfOk result (λ mpu. mpu ≡ mpu_seven 300) }
 {
-    let aus = [Au { dts_pts: 1001, pts: 1001 }, Au { dts_pts: 2002, pts: 0 }];
-    let units = [unit(65_536_200, 0, 3000, 1), unit(65_536_300, 3000, 500, 2)];
+    let mut aus = List::new(alloc);
+    aus.push(Au {
+        dts_pts: 1001,
+        pts: 1001,
+    })?;
+    aus.push(Au {
+        dts_pts: 2002,
+        pts: 0,
+    })?;
+    let mut units = List::new(alloc);
+    units.push(unit(200, 0, 3000, 1))?;
+    units.push(unit(300, 3000, 500, 2))?;
     Ok(Mpu {
         number: 7,
         time: Ntp(4_297_114_779_648),
         decoding_offset: 1001,
-        aus: List::from_vec(aus.to_vec(alloc)?),
-        units: List::from_vec(units.to_vec(alloc)?),
+        aus,
+        units,
     })
 }
 
+/// Its signalling.
 fn signals(alloc: Global) -> Result<List<Signal>, OutOfMemory>
     ensures { IfOk result (λ signals. signals ≡ usual_signals) }
 {
+    let mut names = List::new(alloc);
+    names.push((0, 0))?;
     let mut signals = List::new(alloc);
     signals.push(Signal::Parameters {
         at: LongTick(65_536_000),
     })?;
     signals.push(Signal::Table {
         at: LongTick(65_536_100),
-        names: List::from_vec([(0, 0)].to_vec(alloc)?),
+        names,
     })?;
     Ok(signals)
 }
 
-fn asset(alloc: Global) -> Result<Asset, OutOfMemory>
-    ensures { IfOk result (λ asset. asset ∷ [] ≡ plan_one.assets) }
+/// Its asset.
+fn assets(alloc: Global) -> Result<List<Asset>, OutOfMemory>
+    ensures { IfOk result (λ assets. assets ≡ plan_one.assets) }
 {
     let mut mpus = List::new(alloc);
     mpus.push(mpu(alloc)?)?;
-    Ok(Asset {
+    let mut assets = List::new(alloc);
+    assets.push(Asset {
         packet_id: 256,
-        id: List::from_vec([118].to_vec(alloc)?),
+        id: and(List::new(alloc), 118)?,
         kind: 0x6865_7631,
         timed: true,
         timescale: 60_000,
         file: 0,
         mpus,
-    })
+    })?;
+    Ok(assets)
+}
+
+/// The name of its file.
+fn files(alloc: Global) -> Result<List<Text>, OutOfMemory>
+    ensures { IfOk result (λ files. files ≡ plan_one.files) }
+{
+    let mut files = List::new(alloc);
+    files.push(Text::from_str(alloc, "v.bin")?)?;
+    Ok(files)
 }
 
 /// The worked plan.
 fn worked(alloc: Global) -> Result<Programme, OutOfMemory>
     ensures { IfOk result (λ programme. programme ≡ plan_one) }
 {
-    let mut assets = List::new(alloc);
-    assets.push(asset(alloc)?)?;
-    let mut files = List::new(alloc);
-    files.push(Text::from_str(alloc, "v.bin")?)?;
     Ok(Programme {
         flow: Flow {
-            address: 0xFF0E_0000_0000_0000_0000_0000_0000_0101,
+            address: 0xFF00_0000_0000_0000_0000_0000_0000_0001,
             port: 51_300,
         },
         source: Flow {
@@ -103,26 +137,33 @@ fn worked(alloc: Global) -> Result<Programme, OutOfMemory>
         full_every: 3,
         limit: 1400,
         spacing: 10,
-        package: List::from_vec([112, 49].to_vec(alloc)?),
+        package: and(and(List::new(alloc), 112)?, 49)?,
         params: Params {
             bound: 4000,
             window: 65_536,
             delay: 1000,
         },
         signals: signals(alloc)?,
-        assets,
-        files,
+        assets: assets(alloc)?,
+        files: files(alloc)?,
     })
+}
+
+/// Message number `at` of the worked plan.
+fn message(alloc: Global, at: usize) -> Result<Vec<u8>, Fail>
+    requires { at < 2 }
+{
+    let programme = worked(alloc)?;
+    let mut out = Vec::new(alloc);
+    put_message(&mut out, &programme, at, 0)?;
+    Ok(out)
 }
 
 #[test]
 fn the_worked_plan_has_its_two_messages(rt: HostRuntime) -> Result<(), Fail> {
-    let programme = worked(rt.alloc())?;
-    let mut out = Vec::new(rt.alloc());
-    put_message(&mut out, &programme, 0, 0)?;
-    assert_eq!(rt; out.as_slice(), PARAMETERS.as_slice());
-    let start = out.len();
-    put_message(&mut out, &programme, 1, 0)?;
-    assert_eq!(rt; out.get(start..).ok_or("nothing")?, TABLE.as_slice());
+    let parameters = message(rt.alloc(), 0)?;
+    assert_eq!(rt; parameters.as_slice(), PARAMETERS.as_slice());
+    let table = message(rt.alloc(), 1)?;
+    assert_eq!(rt; table.as_slice(), TABLE.as_slice());
     Ok(())
 }
