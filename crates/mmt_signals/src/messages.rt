@@ -57,7 +57,7 @@ fn put_table(out: &mut Vec<u8>, programme: &Programme, version: u8, names: &[(u3
 
 /// Appends a PA message of version 0 with one table. Want of memory leaves `out` as it was.
 #[tactic(auto, using(std::proofs::Common::append_assoc, crate::proofs::Tables::message_are, crate::proofs::Tables::table_parts))]
-fn put_pa(out: &mut Vec<u8>, programme: &Programme, version: u8, names: &[(u32, u32)]) -> Result<(), OutOfMemory>
+pub(crate) fn put_pa(out: &mut Vec<u8>, programme: &Programme, version: u8, names: &[(u32, u32)]) -> Result<(), OutOfMemory>
     requires fits { FitsTables programme.now }
     requires names { MayBeNamed programme.now names.now }
     ensures ok { OnOk result (out.new.items ≡ out.old.items ++ message_spelling (PaMessage (record { version = 0; tables = listed_table (mpt_spelling (sent_table programme.now version names.now)) ∷ [] }))) }
