@@ -3,3 +3,4 @@ pub mod FileReads
 pub mod Addressed
 pub mod Lone
 pub mod Groups
+pub mod Earlier

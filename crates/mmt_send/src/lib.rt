@@ -4,6 +4,7 @@
 mod addressing;
 mod ends;
 mod files;
+mod messages;
 mod sources;
 mod units;
 
