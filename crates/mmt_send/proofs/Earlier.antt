@@ -1,7 +1,7 @@
 -- The table copies of a cast stand in the order of their messages: how many stand before one, and where its own stands.
 use Rattle.std.proofs.Common.{◌≡◌, ◌⊎◌, ℕ, zero, suc, ◌+◌, ◌-◌, ◌<◌, ◌≤◌, ◌^◌, Bool, true, false, cond, ltb, List, [], ◌∷◌, ◌++◌, length, take, get_or, arith, refl, sym, ap, subst, ◌∙◌, ⊎_elim}
 use Rattle.std.proofs.lemmas.Bool.{cases_lt, le-ltb, lt-ltb, ltb-false, ltb-true}
-use Rattle.std.proofs.lemmas.List.{length-take}
+use Rattle.std.proofs.lemmas.List.{get_or_default, length-take}
 use Rattle.std.proofs.lemmas.List.Sums.{count_by-le-length, sum_by-cons}
 use Rattle.std.specs.List.{AllByRecursion, count_by}
 use Rattle.std.specs.List.Sorted.{IsNonDecreasingBy, IsPartitionPoint}
@@ -10,7 +10,7 @@ use Rattle.mmt_cast.specs.Placing.{flat_map_from}
 use Rattle.mmt_cast.specs.Right.{signal_at}
 use Rattle.mmt_cast.proofs.Copies.{table-copied}
 use Rattle.mmt_cast.proofs.Listing.{each-at}
-use Rattle.mmt_model.specs.Carrying.{copy_place, no_table_copy}
+use Rattle.mmt_model.specs.Carrying.{copy_place, no_table_copy, table_copy}
 use Rattle.mmt_model.specs.Right.{IsRight}
 use Rattle.mmt_model.specs.declared.casts.Cast.{Cast}
 use Rattle.mmt_model.specs.declared.casts.TableCopy.{TableCopy}
@@ -63,15 +63,18 @@ count-none p (x ∷ xs) h =
     sum_by-cons (λ (c : TableCopy). cond (p c) 1 0) x xs ∙ ap (λ (t : Bool). cond t 1 0 + count_by p xs) head ∙ (let rest = count-none p xs (λ k d l. h (suc k) d (omega arith)) in omega (arith, rest))
 
 count-point : (p : TableCopy → Bool) (cs : List TableCopy) (i : ℕ) → i ≤ length cs → ((k : ℕ) (d : TableCopy) → k < i → p (get_or cs k d) ≡ true) → ((k : ℕ) (d : TableCopy) → i ≤ k → k < length cs → p (get_or cs k d) ≡ false) → count_by p cs ≡ i
-count-point p cs zero l yes no = count-none p cs (λ k d b. no k d (omega arith) b)
-count-point p [] (suc i) l yes no = absurd (omega arith)
-count-point p (x ∷ xs) (suc i) l yes no =
-    let head : p x ≡ true = yes 0 x (omega arith) in
+count-point p cs zero l low high = count-none p cs (λ k d b. high k d (omega arith) b)
+count-point p [] (suc i) l low high = absurd (omega arith)
+count-point p (x ∷ xs) (suc i) l low high =
+    let head : p x ≡ true = low 0 x (omega arith) in
     sum_by-cons (λ (c : TableCopy). cond (p c) 1 0) x xs ∙ ap (λ (t : Bool). cond t 1 0 + count_by p xs) head
-    ∙ (let rest = count-point p xs i (omega arith) (λ k d b. yes (suc k) d (omega arith)) (λ k d a b. no (suc k) d (omega arith) (omega arith)) in omega (arith, rest))
+    ∙ (let rest = count-point p xs i (omega arith) (λ k d b. low (suc k) d (omega arith)) (λ k d a b. high (suc k) d (omega arith) (omega arith)) in omega (arith, rest))
 
 tables-cons : (x : Signal) (xs : List Signal) → count_by is_table (x ∷ xs) ≡ cond (is_table x) 1 0 + count_by is_table xs
 tables-cons x xs = sum_by-cons (λ (s : Signal). cond (is_table s) 1 0) x xs
+
+count-head : (s : ℕ) (y : TableCopy) (cs : List TableCopy) (rest : ℕ) → count_by (λ (c : TableCopy). ltb c.signal s) cs ≡ rest → count_by (λ (c : TableCopy). ltb c.signal s) (y ∷ cs) ≡ cond (ltb y.signal s) 1 0 + rest
+count-head s y cs rest e = sum_by-cons (λ (c : TableCopy). cond (ltb c.signal s) 1 0) y cs ∙ ap (λ (k : ℕ). cond (ltb y.signal s) 1 0 + k) e
 
 -- one more signalling message
 one-counted : (programme : Programme) (s n : ℕ) (x : Signal) (cs : List TableCopy) (rest : ℕ) → count_by (λ (c : TableCopy). ltb c.signal s) cs ≡ rest
@@ -82,7 +85,7 @@ one-counted programme s n (signals.Parameters at) cs rest e = e ∙ nothing (ltb
     nothing : (t : Bool) → rest ≡ cond t 0 0 + rest
     nothing true = omega arith
     nothing false = omega arith
-one-counted programme s n (signals.Table at names) cs rest e = sum_by-cons (λ (c : TableCopy). cond (ltb c.signal s) 1 0) _ cs ∙ ap (λ (k : ℕ). cond (ltb n s) 1 0 + k) e
+one-counted programme s n (signals.Table at names) cs rest e = count-head s (get_or (copy_as_sent programme n (signals.Table at names)) 0 no_table_copy) cs rest e
 
 counted : (programme : Programme) (s n : ℕ) (xs : List Signal) → count_by (λ (c : TableCopy). ltb c.signal s) (flat_map_from (copy_as_sent programme) n xs) ≡ count_by is_table (take (s - n) xs)
 unfolding flat_map_from
@@ -151,3 +154,9 @@ copies-are programme cast is = ap (λ (c : Cast). c.copies) is
 
 pub slice-is : (programme : Programme) (cast : Cast) (slice : List TableCopy) → cast ≡ cast_of programme → slice ≡ cast.copies → slice ≡ copies_as_sent programme
 slice-is programme cast slice is e = e ∙ copies-are programme cast is
+
+-- in how many parts a table is sent, by its copy
+pub parts-are : (cast : Cast) (slice : List TableCopy) (place s : ℕ) (d : TableCopy) → slice ≡ cast.copies → copy_place cast.copies s ≡ place → place < length cast.copies → (get_or slice place d).count ≡ (table_copy cast (copy_place cast.copies s)).count
+unfolding table_copy
+parts-are cast slice place s d e own listed =
+    ap (λ (xs : List TableCopy). (get_or xs place d).count) e ∙ ap (λ (y : TableCopy). y.count) (get_or_default cast.copies place d no_table_copy listed) ∙ ap (λ (k : ℕ). (get_or cast.copies k no_table_copy).count) (sym own)

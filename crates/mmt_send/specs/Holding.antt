@@ -1,0 +1,14 @@
+-- What the buffer of signalling messages holds (this project's rule).
+use Rattle.std.specs.Prelude.{◌≡◌, ℕ, List, Option, Some, None}
+use Rattle.mmt_model.specs.declared.programmes.Programme.{Programme}
+use Rattle.mmt_sent.specs.Messages.{message_bytes}
+use Rattle.mmt_send.specs.declared.messages.Spelled.{Spelled}
+
+-- bytes are those of the signalling message of a place, where there is one
+abbrev pub AreOf : Programme → Option ℕ → List ℕ → Type 0
+AreOf programme None bytes = Unit {0}
+AreOf programme (Some place) bytes = bytes ≡ message_bytes programme place
+
+-- the message last spelled is the one of its place
+abbrev pub Holds : Programme → Spelled → Type 0
+Holds programme spelled = AreOf programme spelled.place spelled.bytes.items
