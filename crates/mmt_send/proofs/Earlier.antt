@@ -103,7 +103,7 @@ counted programme s n (x ∷ xs) =
     (λ (past : s ≤ n).
     (let e : s - n ≡ 0 = omega arith in
     let f : s - (n + 1) ≡ 0 = omega arith in
-    ap (λ (t : Bool). cond t (cond (is_table x) 1 0) 0 + count_by is_table (take (s - (n + 1)) xs)) (le-ltb s n past) ∙ ap (λ (k : ℕ). 0 + count_by is_table (take k xs)) f ∙ ap (λ (k : ℕ). count_by is_table (take k (x ∷ xs))) (sym e)))
+    ap (λ (t : Bool). cond t (cond (is_table x) 1 0) 0 + count_by is_table (take (s - (n + 1)) xs)) (le-ltb n s past) ∙ ap (λ (k : ℕ). 0 + count_by is_table (take k xs)) f ∙ ap (λ (k : ℕ). count_by is_table (take k (x ∷ xs))) (sym e)))
     (cases_lt n s)
 
 -- where a search by the message's place ends

@@ -4,3 +4,4 @@ pub mod Addressed
 pub mod Lone
 pub mod Groups
 pub mod Earlier
+pub mod Pieces

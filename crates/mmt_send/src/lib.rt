@@ -5,6 +5,7 @@ mod addressing;
 mod ends;
 mod files;
 mod messages;
+mod payloads;
 mod sources;
 mod units;
 

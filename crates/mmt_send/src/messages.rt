@@ -30,7 +30,7 @@ fn earlier_tables(job: &Job<'_>, signal: u32) -> u32
 }
 
 /// In how many parts a table is sent, by the place of its own copy.
-fn parts_of_table(job: &Job<'_>, signal: u32) -> u32
+pub fn parts_of_table(job: &Job<'_>, signal: u32) -> u32
     requires job { HasCast job.now.programme.now job.now.cast.now }
     requires known { signal < length job.now.programme.now.signals }
     requires table { is_table (signal_at job.now.programme.now signal) ≡ true }
@@ -119,7 +119,8 @@ pub fn put_piece(
         aggregated: false,
         counter: piece.left,
     };
-    write_sig(out, &head, bytes)
+    write_sig(out, &head, bytes)?;
+    Ok(())
 }
 
 // The bytes of a part of so many at most, the first being number 0: none where it begins behind the end.
