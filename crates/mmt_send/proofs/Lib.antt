@@ -5,3 +5,4 @@ pub mod Lone
 pub mod Groups
 pub mod Earlier
 pub mod Pieces
+pub mod EachKind

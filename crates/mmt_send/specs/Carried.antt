@@ -14,7 +14,10 @@ use Rattle.mmt_model.specs.declared.casts.Cast.{Cast}
 use Rattle.mmt_model.specs.declared.keys.Part.{Part}
 use Rattle.mmt_model.specs.declared.programmes.Programme.{Programme}
 use Rattle.mmt_sent.specs.Messages.{is_table}
-use Rattle.mmt_sent.specs.Payloads.{Units, Written}
+use Rattle.mmt_base.specs.Ticks.{low}
+use Rattle.mmt_model.specs.declared.casts.Sent.{Sent}
+use Rattle.mmt_packet.specs.Spelling.{Value as Mmtp}
+use Rattle.mmt_sent.specs.Payloads.{Units, Written, bytes_of, kind_of, written}
 
 -- a right programme with its cast
 pub record HasCast (programme : Programme) (cast : Cast) : Type 0 where
@@ -46,3 +49,8 @@ IsCarried programme (carries.TablePart s k) = (s < length programme.signals) × 
 abbrev pub lone_written : Cast → Contents → ℕ → ℕ → Part → ℕ → Written
 lone_written cast contents u k part counter =
     Units (record { timed = contents.timed u; part = part; aggregated = false; counter = counter; mpu = (entry_of_unit cast contents u).mpu }) (part_of_unit contents u k ∷ [])
+
+-- a packet of a cast as an MMTP packet, as at its place (ISO/IEC 23008-1, the MMTP packet header)
+abbrev pub mmtp_of : Cast → Contents → Sent → Mmtp
+mmtp_of cast contents p =
+    record { counter = None; rap = p.rap; reserved = 0; kind = kind_of (written cast contents p.carries); packet_id = p.packet_id; time = low p.at.0; number = p.number; extension = None; payload = bytes_of (written cast contents p.carries) }

@@ -5,6 +5,7 @@ mod addressing;
 mod ends;
 mod files;
 mod messages;
+mod packets;
 mod payloads;
 mod sources;
 mod units;

@@ -71,3 +71,83 @@ fn parts_of_unit(job: &Job<'_>, unit: u32) -> u32
     let units = job.cast.units.as_slice();
     units[unit as usize].count
 }
+
+// A signalling message in one payload.
+fn whole(signal: u32) -> Piece
+    ensures { result ≡ record { signal = signal; number = 0; part = Part.Whole; left = 0 } }
+{
+    Piece {
+        signal,
+        number: 0,
+        part: Part::Whole,
+        left: 0,
+    }
+}
+
+/// Appends the payload of a packet by what it carries (ISO/IEC 23008-1, the MPU and the signalling payload).
+///
+/// # Errors
+///
+/// `UnitShort` where the file of a unit that it carries is absent or ends before the bytes do, `ReadFault` where a
+/// read of it failed, and `OutOfMemory`.
+pub fn put_payload<H: Shelf>(
+    job: &Job<'_>,
+    shelf: &mut H,
+    carries: Carries,
+    room: &mut Room,
+    out: &mut Vec<u8>,
+) -> Result<(), SendEnd>
+    requires job { HasCast job.now.programme.now job.now.cast.now }
+    requires carried { IsCarried job.now.programme.now carries }
+    requires room { IsRoom job.now.programme.now room.old }
+    ensures room { IsRoom job.now.programme.now room.new }
+    ensures shelf { Stays (H.tells shelf.old) (H.tells shelf.new) (H.file shelf.old) (H.file shelf.new) (H.faults shelf.old) (H.faults shelf.new) }
+    ensures cause { IfErr result (λ e. HasCause job.now.programme.now (H.tells shelf.old) (H.file shelf.old) (H.faults shelf.old) (H.faults shelf.new) e) }
+    ensures long { OnOk result (length out.new.items ≤ length out.old.items + 60022) }
+    ensures payload { IsTrue (H.tells shelf.old) → OnOk result (out.new.items ≡ out.old.items ++ bytes_of (written job.now.cast.now (contents_sent job.now.programme.now (files_on (H.file shelf.old) job.now.programme.now)) carries)) }
+{
+    match carries {
+        Carries::Whole { unit } => {
+            let lone = Lone {
+                unit,
+                number: 0,
+                part: Part::Whole,
+                left: 0,
+            };
+            put_lone(job, shelf, &lone, room.file.as_mut_slice(), out)
+        }
+        Carries::Fragment { unit, number } => {
+            let count = parts_of_unit(job, unit);
+            let lone = Lone {
+                unit,
+                number,
+                part: role(number, count),
+                left: left(number, count),
+            };
+            put_lone(job, shelf, &lone, room.file.as_mut_slice(), out)
+        }
+        Carries::Group { first, count } => {
+            let several = Several { first, count };
+            put_several(job, shelf, &several, room.file.as_mut_slice(), out)
+        }
+        Carries::Parameters { signal } => {
+            put_piece(job, &mut room.spelled, &whole(signal), out)?;
+            Ok(())
+        }
+        Carries::Table { signal } => {
+            put_piece(job, &mut room.spelled, &whole(signal), out)?;
+            Ok(())
+        }
+        Carries::TablePart { signal, number } => {
+            let count = parts_of_table(job, signal);
+            let piece = Piece {
+                signal,
+                number,
+                part: role(number, count),
+                left: left(number, count),
+            };
+            put_piece(job, &mut room.spelled, &piece, out)?;
+            Ok(())
+        }
+    }
+}
