@@ -6,3 +6,5 @@ pub mod Groups
 pub mod Earlier
 pub mod Pieces
 pub mod EachKind
+pub mod Mmtp
+pub mod EachCarried

@@ -7,6 +7,7 @@ ghost use Rattle.mmt_sent.specs.Stream.{addressing_of};
 ghost use Rattle.mmt_send.specs.Calls.{FitsLabel, HasCall, IsAt};
 ghost use Rattle.mmt_tlv.specs.Framing.{spelling};
 
+use crate::made::Made;
 use mmt_base::OutOfMemory;
 use mmt_ctx::Squeezer;
 use mmt_ip::{Ip6Header, Ip6Udp, write_ip6udp};
@@ -84,32 +85,28 @@ impl Addresser {
         }
     }
 
-    /// Writes the next packet over what `out` had: a UDP payload as a TLV packet (ARIB STD-B32 Part 3). `body`
-    /// is room for its body.
+    /// Makes the next packet in `made.outer` of the UDP payload that stands there: a TLV packet (ARIB STD-B32
+    /// Part 3), with its body in `made.inner`.
     ///
     /// # Errors
     ///
     /// `OutOfMemory`.
-    pub fn packet(
-        &mut self,
-        out: &mut Vec<u8>,
-        body: &mut Vec<u8>,
-        payload: &[u8],
-    ) -> Result<(), OutOfMemory>
+    pub fn packet(&mut self, made: &mut Made) -> Result<(), OutOfMemory>
         requires label { FitsLabel self.old }
         requires call { HasCall self.old }
-        requires short { length payload.now ≤ 65000 }
+        requires short { length made.old.outer.items ≤ 65000 }
         ensures label { FitsLabel self.new }
-        ensures packet { OnOk result ((a : Addressing) (call : ℕ) → IsAt a call self.old → out.new.items ≡ spelling (addressed a call payload.now)) }
+        ensures packet { OnOk result ((a : Addressing) (call : ℕ) → IsAt a call self.old → made.new.outer.items ≡ spelling (addressed a call made.old.outer.items)) }
         ensures next { OnOk result ((a : Addressing) (call : ℕ) → IsAt a call self.old → IsAt a (call + 1) self.new) }
     {
-        body.clear();
-        let kind = self.body(body, payload)?;
-        out.clear();
+        made.inner.clear();
+        let kind = self.body(&mut made.inner, made.outer.as_slice())?;
+        made.outer.clear();
         let tlv = Tlv {
             kind,
-            body: body.as_slice(),
+            body: made.inner.as_slice(),
         };
-        write_tlv(out, &tlv)
+        write_tlv(&mut made.outer, &tlv)?;
+        Ok(())
     }
 }

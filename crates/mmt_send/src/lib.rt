@@ -4,6 +4,7 @@
 mod addressing;
 mod ends;
 mod files;
+mod made;
 mod messages;
 mod packets;
 mod payloads;

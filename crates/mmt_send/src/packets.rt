@@ -12,6 +12,7 @@ ghost use Rattle.mmt_sent.specs.Payloads.{kind_of as kind_by, written};
 ghost use Rattle.mmt_sent.specs.Stream.{contents_sent};
 
 use crate::ends::SendEnd;
+use crate::made::Made;
 use crate::payloads::{Room, put_payload};
 use crate::units::Job;
 use mmt_io::Shelf;
@@ -29,13 +30,6 @@ fn kind_of(carries: Carries) -> Kind
             Kind::Signalling
         }
     }
-}
-
-/// The two vectors in which a packet is made, one within the other.
-#[derive(Drop)]
-pub struct Made {
-    pub inner: Vec<u8>,
-    pub outer: Vec<u8>,
 }
 
 /// Makes an MMTP packet of the cast in `made.outer`, with its payload in `made.inner`: without packet counter and
