@@ -8,7 +8,11 @@ use Rattle.mmt_model.specs.declared.casts.Cast.{Cast}
 use Rattle.mmt_model.specs.declared.casts.Sent.{Sent}
 use Rattle.mmt_packet.specs.Spelling.{spelling}
 use Rattle.mmt_packet.specs.declared.packet.Kind.{Kind}
-use Rattle.mmt_sent.specs.Packets.{mmtp_at}
+use Rattle.mmt_cast.specs.Casting.{cast_of}
+use Rattle.mmt_model.specs.declared.programmes.Programme.{Programme}
+use Rattle.mmt_sent.specs.Packets.{addressed, mmtp_at}
+use Rattle.mmt_sent.specs.Stream.{addressing_of, contents_sent, packet_sent}
+use Rattle.mmt_tlv.specs.Framing.{spelling as tlv_spelling}
 use Rattle.mmt_send.specs.Carried.{mmtp_of}
 
 packet-long : (rap : Bool) (kind : Kind) (packet_id time number : ℕ) (payload : List ℕ)
@@ -27,3 +31,11 @@ made-long rap kind packet_id time number payload out old none e l =
 pub at-place : (cast : Cast) (contents : Contents) (n : ℕ) (p : Sent) → p ≡ get_or cast.packets n no_packet → mmtp_of cast contents p ≡ mmtp_at cast contents n
 unfolding mmtp_at
 at-place cast contents n p e = ap (λ (q : Sent). mmtp_of cast contents q) e
+
+-- the TLV packet at a place of the stream
+pub packet-is : (programme : Programme) (cast : Cast) (files : ℕ → List ℕ) (n : ℕ) (p : Sent) (outer made : List ℕ) → cast ≡ cast_of programme → p ≡ get_or cast.packets n no_packet
+    → made ≡ spelling (mmtp_of cast (contents_sent programme files) p) → outer ≡ tlv_spelling (addressed (addressing_of programme) n made) → outer ≡ tlv_spelling (packet_sent programme files n)
+unfolding packet_sent
+packet-is programme cast files n p outer made is e m o =
+    o ∙ ap (λ (payload : List ℕ). tlv_spelling (addressed (addressing_of programme) n payload)) (m ∙ ap spelling (at-place cast (contents_sent programme files) n p e))
+    ∙ ap (λ (c : Cast). tlv_spelling (addressed (addressing_of programme) n (spelling (mmtp_at c (contents_sent programme files) n)))) is

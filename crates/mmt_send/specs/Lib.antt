@@ -2,3 +2,4 @@ pub mod Files
 pub mod Calls
 pub mod Carried
 pub mod Holding
+pub mod Writes

@@ -8,6 +8,7 @@ mod made;
 mod messages;
 mod packets;
 mod payloads;
+mod sending;
 mod sources;
 mod units;
 
