@@ -8,3 +8,4 @@ pub mod Pieces
 pub mod EachKind
 pub mod Mmtp
 pub mod EachCarried
+pub mod WholeStream

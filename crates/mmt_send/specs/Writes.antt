@@ -26,6 +26,12 @@ IsFrontOf (In bytes ∷ events) packets = Unit {0} → ⊥
 IsFrontOf (Note bytes ∷ events) packets = Unit {0} → ⊥
 IsFrontOf (Out bytes ∷ event ∷ events) packets = Unit {0} → ⊥
 
+-- a front of the first of these packets was written, or nothing
+pub record AddsFront (old new : List Event) (packets : List Tlv) : Type 0 where
+  pub last : List Event
+  pub history : new ≡ old ++ last
+  pub front : IsFrontOf last packets
+
 -- of these packets the first were written, and nothing else passed but perhaps a front of the next
 pub record HasBegun (old new : List Event) (packets : List Tlv) : Type 0 where
   pub sent : List Tlv

@@ -1,13 +1,13 @@
 //! Writing the stream of a cast, packet by packet.
 
-ghost use Rattle.std.specs.Prelude.{◌≡◌, ◌+◌, ◌<◌, ◌++◌, length, None, IsTrue, IfOk, IfErr, OnOk, OnErr};
+ghost use Rattle.std.specs.Prelude.{◌≡◌, ◌+◌, ◌<◌, ◌++◌, ◌∷◌, [], length, None, IsTrue, IfOk, IfErr, OnOk, OnErr};
 ghost use Rattle.mmt_cast.specs.Casting.{cast_of};
 ghost use Rattle.mmt_cast.specs.Refusing.{refusal};
 ghost use Rattle.mmt_model.specs.Right.{IsRight};
 ghost use Rattle.mmt_plan.specs.Plan.{Stays};
 ghost use Rattle.mmt_send.specs.Carried.{HasCast};
 ghost use Rattle.mmt_send.specs.Files.{files_on, HasCause};
-ghost use Rattle.mmt_send.specs.Writes.{EndsFor, HasBegun, IsReady, IsUnread, pieces};
+ghost use Rattle.mmt_send.specs.Writes.{AddsFront, EndsFor, HasBegun, IsReady, IsUnread, pieces};
 ghost use Rattle.mmt_sent.specs.Stream.{packet_sent, stream};
 ghost use Rattle.mmt_tlv.specs.Framing.{spelling};
 
@@ -19,7 +19,7 @@ use crate::payloads::Room;
 use crate::units::Job;
 use mmt_admit::Admitted;
 use mmt_base::OutOfMemory;
-use mmt_io::{Port, Shelf};
+use mmt_io::{Fault, Port, Shelf};
 use mmt_model::Programme;
 use std::alloc::Global;
 
@@ -66,6 +66,31 @@ impl Sender {
         self.addresser.packet(&mut self.made)?;
         Ok(())
     }
+
+    // Makes and writes the packet at a place of the cast.
+    fn write_next<H: Shelf, P: Port>(
+        &mut self,
+        job: &Job<'_>,
+        shelf: &mut H,
+        port: &mut P,
+        place: usize,
+    ) -> Result<(), SendEnd>
+        requires job { HasCast job.now.programme.now job.now.cast.now }
+        requires place { place < length job.now.cast.now.packets }
+        requires ready { IsReady job.now.programme.now place self.old }
+        ensures ready { OnOk result (IsReady job.now.programme.now (place + 1) self.new) }
+        ensures sent { IsTrue (H.tells shelf.old) → IsTrue (P.tells port.old) → OnOk result (P.history port.new ≡ P.history port.old ++ pieces (packet_sent job.now.programme.now (files_on (H.file shelf.old) job.now.programme.now) place ∷ [])) }
+        ensures front { IsTrue (H.tells shelf.old) → IsTrue (P.tells port.old) → OnErr result (AddsFront (P.history port.old) (P.history port.new) (packet_sent job.now.programme.now (files_on (H.file shelf.old) job.now.programme.now) place ∷ [])) }
+        ensures cause { IfErr result (λ e. EndsFor job.now.programme.now (H.tells shelf.old) (H.file shelf.old) (H.faults shelf.old, H.faults shelf.new) (P.write_faults port.old, P.write_faults port.new) e) }
+        ensures shelf { Stays (H.tells shelf.old) (H.tells shelf.new) (H.file shelf.old) (H.file shelf.new) (H.faults shelf.old) (H.faults shelf.new) }
+        ensures port { IsUnread (P.tells port.old) (P.tells port.new) (P.left port.old) (P.left port.new) (P.read_faults port.old) (P.read_faults port.new) (P.write_faults port.old) (P.write_faults port.new) }
+    {
+        self.make(job, shelf, place)?;
+        match port.write(self.made.outer.as_slice()) {
+            Ok(()) => Ok(()),
+            Err(Fault) => Err(SendEnd::WriteFault),
+        }
+    }
 }
 
 /// Writes the stream of an admitted cast of a right programme, one TLV packet with each write, in the order of the
@@ -99,9 +124,9 @@ pub fn send<H: Shelf, P: Port>(
     };
     let mut sender = Sender::new(alloc, programme)?;
     for place in 0..job.cast.packets.len() {
-        sender.make(&job, shelf, place)?;
-        if port.write(sender.made.outer.as_slice()).is_err() {
-            return Err(SendEnd::WriteFault);
+        match sender.write_next(&job, shelf, port, place) {
+            Ok(()) => {}
+            Err(end) => return Err(end),
         }
     }
     Ok(())
