@@ -13,3 +13,4 @@ mod sources;
 mod units;
 
 pub use ends::SendEnd;
+pub use sending::send;
