@@ -14,3 +14,6 @@ mod units;
 
 pub use ends::SendEnd;
 pub use sending::send;
+
+#[cfg(test)]
+mod tests;
