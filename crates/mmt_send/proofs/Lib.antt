@@ -9,3 +9,4 @@ pub mod EachKind
 pub mod Mmtp
 pub mod EachCarried
 pub mod WholeStream
+pub mod AllHeld

@@ -3,3 +3,4 @@ pub mod Calls
 pub mod Carried
 pub mod Holding
 pub mod Writes
+pub mod Held

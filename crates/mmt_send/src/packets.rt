@@ -7,6 +7,7 @@ ghost use Rattle.mmt_packet.specs.Spelling.{spelling};
 ghost use Rattle.mmt_plan.specs.Plan.{Stays};
 ghost use Rattle.mmt_send.specs.Carried.{HasCast, IsCarried, mmtp_of};
 ghost use Rattle.mmt_send.specs.Files.{files_on, HasCause};
+ghost use Rattle.mmt_send.specs.Held.{AreHeld};
 ghost use Rattle.mmt_send.specs.Holding.{IsRoom};
 ghost use Rattle.mmt_sent.specs.Payloads.{kind_of as kind_by, written};
 ghost use Rattle.mmt_sent.specs.Stream.{contents_sent};
@@ -53,6 +54,7 @@ pub fn make_packet<H: Shelf>(
     ensures cause { IfErr result (λ e. HasCause job.now.programme.now (H.tells shelf.old) (H.file shelf.old) (H.faults shelf.old) (H.faults shelf.new) e) }
     ensures long { OnOk result (length made.new.outer.items ≤ 60034) }
     ensures packet { IsTrue (H.tells shelf.old) → OnOk result (made.new.outer.items ≡ spelling (mmtp_of job.now.cast.now (contents_sent job.now.programme.now (files_on (H.file shelf.old) job.now.programme.now)) sent.now)) }
+    ensures held { IsTrue (H.tells shelf.old) → OnOk result (AreHeld job.now.programme.now (files_on (H.file shelf.old) job.now.programme.now) sent.now.carries) }
 {
     made.inner.clear();
     put_payload(job, shelf, sent.carries, room, &mut made.inner)?;

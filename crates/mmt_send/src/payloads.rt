@@ -7,6 +7,7 @@ ghost use Rattle.mmt_model.specs.declared.programmes.Programme.{Programme};
 ghost use Rattle.mmt_plan.specs.Plan.{Stays};
 ghost use Rattle.mmt_send.specs.Carried.{HasCast, IsCarried};
 ghost use Rattle.mmt_send.specs.Files.{files_on, HasCause};
+ghost use Rattle.mmt_send.specs.Held.{AreHeld};
 ghost use Rattle.mmt_send.specs.Holding.{IsRoom};
 ghost use Rattle.mmt_sent.specs.Payloads.{bytes_of, kind_of, left as left_of, written};
 ghost use Rattle.mmt_sent.specs.Stream.{contents_sent};
@@ -105,6 +106,7 @@ pub fn put_payload<H: Shelf>(
     ensures cause { IfErr result (λ e. HasCause job.now.programme.now (H.tells shelf.old) (H.file shelf.old) (H.faults shelf.old) (H.faults shelf.new) e) }
     ensures long { OnOk result (length out.new.items ≤ length out.old.items + 60022) }
     ensures payload { IsTrue (H.tells shelf.old) → OnOk result (out.new.items ≡ out.old.items ++ bytes_of (written job.now.cast.now (contents_sent job.now.programme.now (files_on (H.file shelf.old) job.now.programme.now)) carries)) }
+    ensures held { IsTrue (H.tells shelf.old) → OnOk result (AreHeld job.now.programme.now (files_on (H.file shelf.old) job.now.programme.now) carries) }
 {
     match carries {
         Carries::Whole { unit } => {

@@ -1,12 +1,14 @@
 //! Writing the stream of a cast, packet by packet.
 
-ghost use Rattle.std.specs.Prelude.{◌≡◌, ◌+◌, ◌<◌, ◌++◌, ◌∷◌, [], length, None, IsTrue, IfOk, IfErr, OnOk, OnErr};
+ghost use Rattle.std.specs.Prelude.{◌≡◌, ◌+◌, ◌<◌, ◌++◌, ◌∷◌, [], length, get_or, None, IsTrue, IfOk, IfErr, OnOk, OnErr};
 ghost use Rattle.mmt_cast.specs.Casting.{cast_of};
 ghost use Rattle.mmt_cast.specs.Refusing.{refusal};
 ghost use Rattle.mmt_model.specs.Right.{IsRight};
 ghost use Rattle.mmt_plan.specs.Plan.{Stays};
 ghost use Rattle.mmt_send.specs.Carried.{HasCast};
 ghost use Rattle.mmt_send.specs.Files.{files_on, HasCause};
+ghost use Rattle.mmt_send.specs.Held.{AreHeld, AreWhole};
+ghost use Rattle.mmt_model.specs.Survival.{no_packet};
 ghost use Rattle.mmt_send.specs.Writes.{AddsFront, EndsFor, HasBegun, IsReady, IsUnread, pieces};
 ghost use Rattle.mmt_sent.specs.Stream.{packet_sent, stream};
 ghost use Rattle.mmt_tlv.specs.Framing.{spelling};
@@ -58,6 +60,7 @@ impl Sender {
         ensures shelf { Stays (H.tells shelf.old) (H.tells shelf.new) (H.file shelf.old) (H.file shelf.new) (H.faults shelf.old) (H.faults shelf.new) }
         ensures cause { IfErr result (λ e. HasCause job.now.programme.now (H.tells shelf.old) (H.file shelf.old) (H.faults shelf.old) (H.faults shelf.new) e) }
         ensures ready { OnOk result (IsReady job.now.programme.now (place + 1) self.new) }
+        ensures held { IsTrue (H.tells shelf.old) → OnOk result (AreHeld job.now.programme.now (files_on (H.file shelf.old) job.now.programme.now) (get_or job.now.cast.now.packets place no_packet).carries) }
         ensures packet { IsTrue (H.tells shelf.old) → OnOk result (self.new.made.outer.items ≡ spelling (packet_sent job.now.programme.now (files_on (H.file shelf.old) job.now.programme.now) place)) }
     {
         let packets = job.cast.packets.as_slice();
@@ -79,6 +82,7 @@ impl Sender {
         requires place { place < length job.now.cast.now.packets }
         requires ready { IsReady job.now.programme.now place self.old }
         ensures ready { OnOk result (IsReady job.now.programme.now (place + 1) self.new) }
+        ensures held { IsTrue (H.tells shelf.old) → OnOk result (AreHeld job.now.programme.now (files_on (H.file shelf.old) job.now.programme.now) (get_or job.now.cast.now.packets place no_packet).carries) }
         ensures sent { IsTrue (H.tells shelf.old) → IsTrue (P.tells port.old) → OnOk result (P.history port.new ≡ P.history port.old ++ pieces (packet_sent job.now.programme.now (files_on (H.file shelf.old) job.now.programme.now) place ∷ [])) }
         ensures front { IsTrue (H.tells shelf.old) → IsTrue (P.tells port.old) → OnErr result (AddsFront (P.history port.old) (P.history port.new) (packet_sent job.now.programme.now (files_on (H.file shelf.old) job.now.programme.now) place ∷ [])) }
         ensures cause { IfErr result (λ e. EndsFor job.now.programme.now (H.tells shelf.old) (H.file shelf.old) (H.faults shelf.old, H.faults shelf.new) (P.write_faults port.old, P.write_faults port.new) e) }
@@ -113,6 +117,8 @@ pub fn send<H: Shelf, P: Port>(
     // The stream was written, or a front of it, and nothing was noted or read; where shelf and port tell what they have.
     ensures done { IsTrue (H.tells shelf.old) → IsTrue (P.tells port.old) → OnOk result (P.history port.new ≡ P.history port.old ++ pieces (stream programme.now (files_on (H.file shelf.old) programme.now))) }
     ensures begun { IsTrue (H.tells shelf.old) → IsTrue (P.tells port.old) → OnErr result (HasBegun (P.history port.old) (P.history port.new) (stream programme.now (files_on (H.file shelf.old) programme.now))) }
+    // Where it was written, no file ends before a unit of it does.
+    ensures whole { IsTrue (H.tells shelf.old) → OnOk result (AreWhole programme.now (files_on (H.file shelf.old) programme.now)) }
     // Why it ended.
     ensures cause { IfErr result (λ e. EndsFor programme.now (H.tells shelf.old) (H.file shelf.old) (H.faults shelf.old, H.faults shelf.new) (P.write_faults port.old, P.write_faults port.new) e) }
     ensures shelf { Stays (H.tells shelf.old) (H.tells shelf.new) (H.file shelf.old) (H.file shelf.new) (H.faults shelf.old) (H.faults shelf.new) }

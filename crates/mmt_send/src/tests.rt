@@ -1,9 +1,13 @@
 //! The stream of the worked plan, and where it ends.
 
+ghost use Rattle.std.specs.Prelude.{IfOk};
+ghost use Rattle.mmt_model.specs.Right.{IsRight};
+
 use crate::{SendEnd, send};
 use mmt_admit::{admit, is_readable};
 use mmt_casting::cast_of;
 use mmt_io::{CallKind, FailAt, MemoryPort, MemoryShelf};
+use mmt_model::Programme;
 use mmt_plan::read_plan;
 use std::alloc::Global;
 use std::test::Fail;
@@ -86,6 +90,19 @@ fn joined(alloc: Global, packets: &[(&str, usize, usize)]) -> Result<Vec<u8>, Fa
     Ok(bytes)
 }
 
+// The programme of a plan.
+fn programme_of(alloc: Global, plan: &str) -> Result<Programme, Fail>
+    ensures { IfOk result IsRight }
+{
+    let bytes = plan.as_bytes().to_vec(alloc)?;
+    let mut shelf = MemoryShelf::new(alloc, Vec::new(alloc));
+    shelf.put("plan", bytes)?;
+    match read_plan(alloc, &mut shelf, "plan") {
+        Ok(programme) => Ok(programme),
+        Err(_) => Err("no plan")?,
+    }
+}
+
 // The stream of a plan, with these first bytes of its file, where these reads of it and these writes fail.
 fn sent_of(
     alloc: Global,
@@ -94,12 +111,7 @@ fn sent_of(
     reads: &[u64],
     writes: &[FailAt],
 ) -> Result<Outcome, Fail> {
-    let mut plans = MemoryShelf::new(alloc, Vec::new(alloc));
-    plans.put("plan", plan.as_bytes().to_vec(alloc)?)?;
-    let programme = match read_plan(alloc, &mut plans, "plan") {
-        Ok(programme) => programme,
-        Err(_) => Err("no plan")?,
-    };
+    let programme = programme_of(alloc, plan)?;
     let cast = match cast_of(alloc, &programme) {
         Ok(cast) => cast,
         Err(_) => Err("no cast")?,
@@ -113,7 +125,8 @@ fn sent_of(
     };
     let mut shelf = MemoryShelf::new(alloc, reads.to_vec(alloc)?);
     if let Some(bytes) = file {
-        shelf.put("v.bin", bytes.to_vec(alloc)?)?;
+        let bytes = bytes.to_vec(alloc)?;
+        shelf.put("v.bin", bytes)?;
     }
     let mut port = MemoryPort::new(alloc, Vec::new(alloc), 16, 8192, writes.to_vec(alloc)?)?;
     let end = send(alloc, &programme, &admitted, &mut shelf, &mut port);

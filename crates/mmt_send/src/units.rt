@@ -1,6 +1,6 @@
 //! The payloads of units: a part of one by itself, or several units of one MPU.
 
-ghost use Rattle.std.specs.Prelude.{◌≡◌, ◌+◌, ◌*◌, ◌<◌, ◌≤◌, ◌++◌, length, IsTrue, IfErr, OnOk};
+ghost use Rattle.std.specs.Prelude.{◌≡◌, ℕ, ◌+◌, ◌*◌, ◌<◌, ◌≤◌, ◌++◌, length, IsTrue, IfErr, OnOk};
 ghost use Rattle.mmt_cast.specs.Casting.{cast_of};
 ghost use Rattle.mmt_cast.specs.Placing.{all_units};
 ghost use Rattle.mmt_cast.specs.Right.{unit_at};
@@ -8,6 +8,7 @@ ghost use Rattle.mmt_mpu.specs.Head.{view_unit};
 ghost use Rattle.mmt_plan.specs.Plan.{Stays};
 ghost use Rattle.mmt_send.specs.Carried.{HasCast, IsGroup, lone_written};
 ghost use Rattle.mmt_send.specs.Files.{files_on, HasCause};
+ghost use Rattle.mmt_send.specs.Held.{HasPart};
 ghost use Rattle.mmt_sent.specs.Payloads.{bytes_of, written};
 ghost use Rattle.mmt_sent.specs.Stream.{contents_sent};
 
@@ -58,6 +59,7 @@ pub fn put_lone<H: Shelf>(
     ensures cause { IfErr result (λ e. HasCause job.now.programme.now (H.tells shelf.old) (H.file shelf.old) (H.faults shelf.old) (H.faults shelf.new) e) }
     ensures long { OnOk result (length out.new.items ≤ length out.old.items + 60022) }
     ensures payload { IsTrue (H.tells shelf.old) → OnOk result (out.new.items ≡ out.old.items ++ bytes_of (lone_written job.now.cast.now (contents_sent job.now.programme.now (files_on (H.file shelf.old) job.now.programme.now)) lone.now.unit lone.now.number lone.now.part lone.now.left)) }
+    ensures held { IsTrue (H.tells shelf.old) → OnOk result (HasPart job.now.programme.now (files_on (H.file shelf.old) job.now.programme.now) lone.now.unit lone.now.number) }
 {
     let source = source_of(job.programme, job.cast, lone.unit);
     let limit = job.programme.limit;
@@ -116,6 +118,7 @@ pub fn put_several<H: Shelf>(
     ensures cause { IfErr result (λ e. HasCause job.now.programme.now (H.tells shelf.old) (H.file shelf.old) (H.faults shelf.old) (H.faults shelf.new) e) }
     ensures long { OnOk result (length out.new.items ≤ length out.old.items + 60022) }
     ensures payload { IsTrue (H.tells shelf.old) → OnOk result (out.new.items ≡ out.old.items ++ bytes_of (written job.now.cast.now (contents_sent job.now.programme.now (files_on (H.file shelf.old) job.now.programme.now)) (Carries.Group several.now.first several.now.count))) }
+    ensures held { IsTrue (H.tells shelf.old) → OnOk result ((u : ℕ) → several.now.first ≤ u → u < several.now.first + several.now.count → HasPart job.now.programme.now (files_on (H.file shelf.old) job.now.programme.now) u 0) }
 {
     let first = source_of(job.programme, job.cast, several.first);
     let head = MpuHead {

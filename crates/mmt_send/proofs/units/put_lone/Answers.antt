@@ -5,6 +5,7 @@ use Rattle.mmt_sent.specs.Payloads.{bytes_of}
 use Rattle.mmt_sent.specs.Stream.{contents_sent}
 use Rattle.mmt_send.specs.Carried.{lone_written}
 use Rattle.mmt_send.specs.Files.{files_on}
+use Rattle.mmt_send.proofs.AllHeld.{part-held}
 use Rattle.mmt_send.proofs.Lone.{lone-out, part-place, payload-long, source-from, source-plain}
 use Rattle.mmt_send.proofs.units.put_lone.Goals as goal
 
@@ -32,3 +33,8 @@ returns-clause-payload g c t =
     subst (λ (u : ℕ). c.write_part.new.out.items ≡ c.args.out.now.items ++ bytes_of (lone_written c.args.job.now.cast.now (contents_sent c.args.job.now.programme.now (files_on (g.H.Shelf.file c.args.shelf.now) c.args.job.now.programme.now)) u c.args.lone.now.number c.args.lone.now.part c.args.lone.now.left)) is
     (lone-out c.args.job.now.programme.now c.args.job.now.cast.now (g.H.Shelf.file c.args.shelf.now) c.source_of-source.result c.args.lone.now.number cut c.args.buf.now c.read_unit.new.buf c.write_part.new.out.items c.args.out.now.items
     c.requires.job c.source_of-source.ensures.source c.min-length.ensures c.requires.room c.read_unit.auto.buf (c.in_ok-read_unit.ensures.bytes t) c.in_ok-write_part.ensures.ok)
+
+pub returns-clause-held : goal.returns-clause-held
+returns-clause-held g c t =
+    part-held c.args.job.now.programme.now (g.H.Shelf.file c.args.shelf.now) c.source_of-source.result c.args.lone.now.unit c.args.lone.now.number c.min-length.result c.args.buf.now c.source_of-source.ensures.source c.source_of-source.ensures.number
+    c.min-length.ensures (omega (arith, c.requires.room, c.min-length.ensures)) (c.in_ok-read_unit.ensures.there t)
