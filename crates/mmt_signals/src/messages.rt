@@ -92,7 +92,8 @@ pub(crate) fn put_pa(
 /// Appends a buffer message of version 0. Want of memory leaves `out` as it was.
 #[tactic(auto, using(std::proofs::Common::append_assoc), unfolding(mmt_sig::specs::Message::message_spelling, mmt_sig::specs::Message::hrbm_bytes))]
 fn put_hrbm(out: &mut Vec<u8>, params: &Params) -> Result<(), OutOfMemory>
-    ensures ok { OnOk result (out.new.items ≡ out.old.items ++ message_spelling (HrbmMessage (record { version = 0; params = params.now }))) }
+    ensures ok { OnOk result (out.new.items ≡ out.old.items
+        ++ message_spelling (HrbmMessage (record { version = 0; params = params.now }))) }
     ensures err { OnErr result (out.new.items ≡ out.old.items) }
 {
     out.reserve(17)?;
