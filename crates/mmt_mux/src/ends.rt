@@ -102,6 +102,7 @@ impl From<FilesEnd> for MuxEnd {
 }
 
 /// Where a unit of a cast stands in its plan, the member that is its length.
+#[tactic(auto, using(crate::proofs::Checks::unit_found, crate::proofs::Checks::unit_absent))]
 fn place_of_unit(cast: &Cast, unit: u32) -> PlanPlace
     ensures { result ≡ unit_place cast.now unit }
 {
