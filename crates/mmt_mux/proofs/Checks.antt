@@ -1,22 +1,19 @@
 -- The checks one after the other.
-use Rattle.std.proofs.Common.{◌≡◌, ℕ, Bool, true, false, inl, inr, List, [], ◌++◌, Option, Some, None, Result, Ok, Err, refl, ap, sym, ◌∙◌, subst}
+use Rattle.std.proofs.Common.{◌≡◌, ℕ, inl, inr, List, Option, Some, None, Result, Ok, Err, refl, ap, sym, ◌∙◌, subst}
 use Rattle.std.specs.Prelude.{slice_get}
 use Rattle.std.specs.Option.{unwrap_or}
 use Rattle.std.proofs.lemmas.Option.{unwrap_or-slice_get}
 use Rattle.mmt_model.specs.Carrying.{no_sent_unit, sent_unit}
 use Rattle.mmt_model.specs.declared.casts.Cast.{Cast}
 use Rattle.mmt_model.specs.declared.casts.SentUnit.{SentUnit}
-use Rattle.mmt_admit.specs.Faults.{IsReadable}
 use Rattle.mmt_cast.specs.Casting.{cast_of}
 use Rattle.mmt_cast.specs.Refusing.{Refusal as NoCast, refusal}
 use Rattle.mmt_casting.specs.Ends.{IsEndOf, end_of}
 use Rattle.mmt_casting.specs.declared.ends.CastEnd.{CastEnd}
-use Rattle.mmt_casting.specs.declared.ends.CastEnd.TheVariants as casts
 use Rattle.mmt_model.specs.Admission.{Fault, fault}
 use Rattle.mmt_model.specs.declared.programmes.Programme.{Programme}
-use Rattle.mmt_mux.specs.Ending.{IsMuxAnswer, IsRead, cast_end, files_end, plan_end, refused_for}
+use Rattle.mmt_mux.specs.Ending.{IsMuxAnswer, IsRead, cast_end, files_end, plan_end}
 use Rattle.mmt_mux.specs.Sendable.{Faulty, Refused, Why, ◌>>=◌, cast_refusal, checked, has_cast, is_admitted, sendable}
-use Rattle.mmt_mux.specs.declared.ends.MuxEnd.{MuxEnd}
 use Rattle.mmt_plan.specs.Files.{IsFilesAnswer, files_of}
 use Rattle.mmt_plan.specs.Plan.{IsOutcome, plan}
 use Rattle.mmt_plan.specs.declared.ends.FilesEnd.{FilesEnd}

@@ -1,5 +1,5 @@
 -- What passes when a stream is sent, and how a run then ends.
-use Rattle.std.proofs.Common.{◌≡◌, ℕ, List, [], ◌∷◌, ◌++◌, map, Option, None, Result, Ok, Err, refl, ap, sym, ◌∙◌, subst}
+use Rattle.std.proofs.Common.{◌≡◌, ℕ, List, [], ◌∷◌, ◌++◌, map, Option, None, Result, Ok, Err, refl, ap, sym, subst}
 use Rattle.mmt_admit.specs.Faults.{IsReadable}
 use Rattle.mmt_cast.proofs.FromRight.{right-programmes-fit}
 use Rattle.mmt_cast.proofs.Readable.{readable as casts-readable}

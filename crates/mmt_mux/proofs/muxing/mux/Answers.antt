@@ -1,6 +1,5 @@
-use Rattle.std.proofs.Common.{◌≡◌, ◌∙◌, ap, sym, subst, Err, Ok, None, Some}
+use Rattle.std.proofs.Common.{◌∙◌, ap, sym, subst, Err}
 use Rattle.mmt_admit.specs.Faults.{fault_value}
-use Rattle.mmt_cast.specs.Casting.{cast_of}
 use Rattle.mmt_model.specs.Admission.{fault}
 use Rattle.mmt_mux.proofs.Checks.{is_sendable, not_admitted}
 use Rattle.mmt_mux.proofs.Sending.{all_sent, part_sent, readable, send_ended}

@@ -1,8 +1,6 @@
 use Rattle.std.proofs.Common.{◌≡◌, ◌∙◌, ap, sym, subst, Err, Ok}
 use Rattle.std.proofs.lemmas.Result.{err_from_is_err_and}
 use Rattle.mmt_mux.proofs.Checks.{cast_ended, fault_here, files_ended, plan_ended}
-use Rattle.mmt_mux.specs.Ending.{IsMuxAnswer}
-use Rattle.mmt_mux.specs.Sendable.{sendable}
 use Rattle.mmt_plan.specs.Plan.{IsOutcome, plan}
 use Rattle.mmt_mux.proofs.muxing.read.Goals as goal
 
