@@ -1,3 +1,4 @@
+pub mod GivenBack
 pub mod Listings
 pub mod Peaked
 pub mod Quiet

@@ -1,3 +1,4 @@
+pub mod GivingBack
 pub mod Listing
 pub mod ListingGrows
 pub mod Moments

@@ -1,6 +1,8 @@
 //! The program `mmt`.
 #![tactic(auto)]
 
+#[cfg(test)]
+mod delivery_tests;
 mod help;
 mod list;
 #[cfg(test)]

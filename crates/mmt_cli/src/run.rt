@@ -3,7 +3,10 @@ ghost use Rattle.std.specs.Prelude.{◌≡◌, ℕ, ◌^◌, ◌≤◌, IsTrue};
 ghost use Rattle.mmt_command.specs.Words.{texts, IsWrongAt};
 ghost use Rattle.mmt_command.specs.Commands.{Asks, IsCommand};
 ghost use Rattle.mmt_cli.specs.Moments.{moment, faults};
+ghost use Rattle.mmt_cli.specs.GivingBack.{GivesBack};
 ghost use Rattle.mmt_cli.specs.Promise.{HasCauses, Promises};
+ghost use Rattle.mmt_cli.specs.Takes.{config_of};
+ghost use Rattle.mmt_command.specs.declared.take_words.TakeOptions.{TakeOptions};
 ghost use Rattle.mmt_command.specs.declared.words.Command.{Command};
 
 use crate::list::list_within;
@@ -11,6 +14,7 @@ use crate::peak::peak_within;
 use crate::status::Status;
 use crate::take::{configured, take_within};
 use mmt_command::{Command, command_of};
+use mmt_headline::take_runs::take_gives_back;
 use mmt_io::{Port, Shelf};
 use std::alloc::Global;
 
@@ -41,11 +45,22 @@ pub fn run_within<P: Port, H: Shelf>(
         (P.write_faults port.old))
         (moment (P.history port.new) (P.left port.new) (P.read_faults port.new)
         (P.write_faults port.new)) }
+    // Of a near delivery of a programme `take` writes exactly the units whose packets and one naming table survived.
+    ensures gives_back { IsTrue (P.tells port.old) → (options : TakeOptions) →
+        Asks (Command.Take options) (texts words.now) →
+        GivesBack (config_of options) limit result
+        (moment (P.history port.old) (P.left port.old) (P.read_faults port.old)
+        (P.write_faults port.old))
+        (moment (P.history port.new) (P.left port.new) (P.read_faults port.new)
+        (P.write_faults port.new)) }
 {
     match command_of(words) {
         Ok(Command::List) => list_within(alloc, port, limit),
         Ok(Command::Peak { flow, params }) => peak_within(alloc, port, flow, params, limit),
-        Ok(Command::Take(options)) => take_within(alloc, port, configured(&options), limit),
+        Ok(Command::Take(options)) => {
+            take_gives_back();
+            take_within(alloc, port, configured(&options), limit)
+        }
         Err(index) => Status::Usage { index },
     }
 }
@@ -71,6 +86,14 @@ pub fn run<P: Port, H: Shelf>(
     // Each command does what it promises.
     ensures promise { IsTrue (P.tells port.old) → (command : Command) →
         Asks command (texts words.now) → Promises command (2 ^ 40) result
+        (moment (P.history port.old) (P.left port.old) (P.read_faults port.old)
+        (P.write_faults port.old))
+        (moment (P.history port.new) (P.left port.new) (P.read_faults port.new)
+        (P.write_faults port.new)) }
+    // Of a near delivery of a programme `take` writes exactly the units whose packets and one naming table survived.
+    ensures gives_back { IsTrue (P.tells port.old) → (options : TakeOptions) →
+        Asks (Command.Take options) (texts words.now) →
+        GivesBack (config_of options) (2 ^ 40) result
         (moment (P.history port.old) (P.left port.old) (P.read_faults port.old)
         (P.write_faults port.old))
         (moment (P.history port.new) (P.left port.new) (P.read_faults port.new)

@@ -1,43 +1,70 @@
 -- What `take` gives back of a near delivery.
-use Rattle.std.proofs.Common.{◌≡◌, ◌⊎◌, inl, inr, ℕ, List, ◌++◌, ap, sym, subst, ◌∙◌}
-use Rattle.std.proofs.lemmas.List.{append_cancel_left}
-use Rattle.mmt_io.specs.History.{Event, bytes_noted}
+use Rattle.std.proofs.Common.{◌≡◌, ℕ, List, ◌++◌, refl, ap, subst}
+use Rattle.mmt_model.specs.Delivery.{newest_first}
+use Rattle.mmt_model.specs.Handing.{Presentation}
 use Rattle.mmt_model.specs.declared.programmes.Programme.{Programme}
-use Rattle.mmt_recv.specs.Receiving.{summary_of}
+use Rattle.mmt_output.specs.Records.{amount_of}
+use Rattle.mmt_recv.specs.Receiving.{all_units, summary_of}
 use Rattle.mmt_sent.specs.Stream.{stream_of}
+use Rattle.mmt_stream.specs.Output.{Output, output_of}
 use Rattle.mmt_stream.specs.Streaming.{Streams}
 use Rattle.mmt_stream.specs.declared.end.StreamEnd.{StreamEnd}
 use Rattle.mmt_stream.specs.declared.end.StreamEnd.TheVariants as end
-use Rattle.mmt_take.specs.Taking.{line_of, taking}
+use Rattle.mmt_take.specs.Taking.{line_of, placed, taking}
 use Rattle.mmt_tlv.specs.Framing.{joined}
 use Rattle.mmt_tune.specs.declared.config.Config.{Config}
 use Rattle.mmt_headline.proofs.Framed.{streams-framed}
-use Rattle.mmt_headline.specs.GivesBack.{NotesQuietly, TakeGivesBack}
-use Rattle.mmt_headline.specs.Taken.{HasTaken, TakesAStart, TakesDelivery, placed_of}
+use Rattle.mmt_headline.proofs.Taken.{placed-packets, units-are}
+use Rattle.mmt_headline.specs.GivesBack.{NotesQuietly, Reaches, TakeGivesBack}
+use Rattle.mmt_headline.specs.Notes.{StreamsAreQuiet}
+use Rattle.mmt_headline.specs.Peaks.{HasRoom, ReceiversHaveRoom}
+use Rattle.mmt_headline.specs.Programmes.{ProgrammesAreReceived}
+use Rattle.mmt_headline.specs.Taken.{TakesAStart, TakesDelivery, all_taken, expected_of, placed_of}
 
-quietly : (config : Config) (programme : Programme) (files : ℕ → List ℕ) (delivery : List ℕ) (events : List Event) → HasTaken config programme files delivery events → NotesQuietly programme files delivery (bytes_noted events)
-quietly config programme files delivery events t =
+quietly : (config : Config) (programme : Programme) (files : ℕ → List ℕ) (delivery : List ℕ) → ProgrammesAreReceived → ReceiversHaveRoom → StreamsAreQuiet → Reaches config programme files delivery
+    → NotesQuietly config programme files delivery (all_taken config programme files delivery).noted
+unfolding placed_of
+quietly config programme files delivery theorem room silence reached =
+    let same = placed-packets (newest_first (stream_of programme files delivery)) in
+    let units : all_units config (placed_of programme files delivery) ≡ expected_of programme files delivery = units-are config programme files delivery theorem reached.sendable reached.receives reached.of reached.near in
+    let has : HasRoom config programme (placed_of programme files delivery) = room config programme files delivery (placed_of programme files delivery) reached.sendable reached.receives reached.of reached.near same in
+    let silent = silence config programme files delivery (placed_of programme files delivery) reached.sendable reached.receives reached.of reached.near same in
     record {
-      notes = t.quiet.0;
+      notes = silent.0;
       last = summary_of config (placed_of programme files delivery);
-      lines = t.notes ∙ ap (λ (xs : List ℕ). xs ++ line_of (summary_of config (placed_of programme files delivery))) t.quiet.2;
-      quiet = t.quiet.1;
-      units = t.units;
-      bytes = t.bytes;
-      peak = t.peak;
-      full = t.full;
+      lines = ap (λ (xs : List ℕ). xs ++ line_of (summary_of config (placed_of programme files delivery))) silent.2;
+      quiet = silent.1;
+      counted = refl;
+      units = ap (λ (us : List Presentation). (amount_of us).units) units;
+      bytes = ap (λ (us : List Presentation). (amount_of us).bytes) units;
+      peak = has.peak;
+      full = has.full;
     }
 
-pub gives-back : TakesDelivery → TakesAStart → TakeGivesBack
-gives-back takes start config programme files delivery reached limit outcome old new unread reads reads' writes writes' does =
-    let s : Streams (taking config) limit outcome old new (joined (stream_of programme files delivery)) unread = does.streams in (
+pub gives-back : TakesDelivery → TakesAStart → ProgrammesAreReceived → ReceiversHaveRoom → StreamsAreQuiet → TakeGivesBack
+gives-back takes start theorem room silence config programme files delivery reached limit outcome old new unread reads reads' writes writes' does =
+    let s : Streams (taking config) limit outcome old new (joined (stream_of programme files delivery)) unread = does.streams in
+    let begun = start config programme files delivery limit outcome old new unread reached.sendable reached.receives reached.of reached.near s in (
       s.events,
       s.passed.history,
-      record { written = λ e. (taken s e).written; noted = λ e. quietly config programme files delivery s.events (taken s e); begun = λ cut. start config programme files delivery limit outcome old new unread reached.sendable reached.receives reached.of reached.near cut s },
+      record {
+        notes = (all_taken config programme files delivery).noted;
+        quiet = quietly config programme files delivery theorem room silence reached;
+        written = λ e. ap (λ (o : Output). o.written) (taken s e);
+        noted = λ e. ap (λ (o : Output). o.noted) (taken s e);
+        writing = begun.written;
+        noting = begun.noted;
+      },
       λ short no_read no_write. does.complete (stream_of programme files delivery) (streams-framed programme files delivery reached.sendable reached.of) short no_read no_write,
     )
   where
-    taken : (s : Streams (taking config) limit outcome old new (joined (stream_of programme files delivery)) unread) → outcome ≡ end.Done → HasTaken config programme files delivery s.events
-    taken s e =
-        let t = takes config programme files delivery limit old new unread reached.sendable reached.receives reached.of reached.near (subst (λ (o : StreamEnd). Streams (taking config) limit o old new (joined (stream_of programme files delivery)) unread) e s) in
-        subst (HasTaken config programme files delivery) (append_cancel_left old t.0 s.events (sym t.1 ∙ s.passed.history)) t.2
+    at : (o : StreamEnd) (s : Streams (taking config) limit o old new (joined (stream_of programme files delivery)) unread) → o ≡ end.Done → output_of s.events ≡ all_taken config programme files delivery
+    at end.Done s e = takes config programme files delivery limit old new unread reached.sendable reached.receives reached.of reached.near s
+    at end.ReadFault s e = absurd cc
+    at end.WriteFault s e = absurd cc
+    at (end.Broken kind place) s e = absurd cc
+    at end.OutOfMemory s e = absurd cc
+    at end.TooLong s e = absurd cc
+
+    taken : (s : Streams (taking config) limit outcome old new (joined (stream_of programme files delivery)) unread) → outcome ≡ end.Done → output_of s.events ≡ all_taken config programme files delivery
+    taken s e = at outcome s e

@@ -7,8 +7,16 @@ use Rattle.mmt_model.specs.Entries.{Entry, is_of_same_mpu, last_due, learn, lear
 use Rattle.mmt_naming.specs.Findings.{Naming, notes_of, notes_of_name}
 use Rattle.mmt_output.specs.declared.notes.Note.{Note}
 use Rattle.mmt_times.specs.Known.{entry_of}
-use Rattle.mmt_headline.specs.Names.{Agrees, IsLearned, LearnedNamesAreQuiet}
 use Rattle.mmt_times.specs.Learning.{Verdict, has_same_times, verdict, verdict_beside}
+
+-- an entry of the same MPU has the same times
+abbrev pub Agrees : Entry → Entry → Type 0
+Agrees e f = is_of_same_mpu e f ≡ true → has_same_times f e ≡ true
+
+-- in what is learned in the end, an entry of the same MPU has the same times, and where the name's last due tick is after the clock there is one
+pub record IsLearned (now : ℕ) (all : List Entry) (e : Entry) : Type 0 where
+  pub agrees : AllByRecursion (Agrees e) all
+  pub there : is_after (low (last_due e)) now ≡ true → list_any (is_of_same_mpu e) all ≡ true
 
 -- ---- what is learned stands behind what was there
 
@@ -95,7 +103,8 @@ one-quiet now m live es e l = alive (is_after (low (last_due e)) now) refl
 
 -- ---- all names of a message
 
-pub names-quiet : LearnedNamesAreQuiet
+-- names of which each is so learned leave nothing to be noted
+pub names-quiet : (now m : ℕ) (live es : List Entry) → AllByRecursion (IsLearned now (learn now live es)) es → notes_of now live (map (Naming m) es) ≡ []
 unfolding notes_of learn
 names-quiet now m live [] l = refl
 names-quiet now m live (e ∷ es) l =

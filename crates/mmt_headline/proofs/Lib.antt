@@ -5,6 +5,7 @@ pub mod Each
 pub mod Framed
 pub mod GivesBack
 pub mod Hearing
+pub mod InOrder
 pub mod Joining
 pub mod Keeping
 pub mod Learned
@@ -25,3 +26,4 @@ pub mod Told
 pub mod Tunes
 pub mod Turned
 pub mod Units
+pub mod WholeCasts

@@ -48,7 +48,7 @@ use Rattle.mmt_headline.proofs.Quiet.{has-place, opened-notes, quiet-outcome, sa
 use Rattle.mmt_headline.specs.Programmes.{IsSendable, Receives}
 use Rattle.mmt_headline.specs.Notes.{AreQuiet, NotesAreQuiet}
 use Rattle.mmt_sent.specs.Stream.{addressing_of, contents_sent, packet_sent, stream_of}
-use Rattle.mmt_model.specs.Received.{tuned_places, tunes_at}
+use Rattle.mmt_model.specs.Received.{tuned_places}
 use Rattle.mmt_hear.specs.declared.why.Why.TheVariants as why
 
 -- ---- a packet more

@@ -28,7 +28,7 @@ use Rattle.mmt_headline.proofs.Turned.{turned-twice}
 use Rattle.mmt_headline.specs.Programmes.{IsSendable, Receives}
 use Rattle.mmt_headline.specs.Peaks.{HasRoom, KeepsTo, ReceiversHaveRoom}
 use Rattle.mmt_sent.specs.Stream.{contents_sent}
-use Rattle.mmt_model.specs.Received.{tuned_places, tunes_at}
+use Rattle.mmt_model.specs.Received.{tuned_places}
 use Rattle.mmt_headline.proofs.Keeping.{keeps-to, start-turned, tuned-of}
 use Rattle.mmt_headline.proofs.Received.{is-receiver, params-of}
 

@@ -24,10 +24,10 @@ use Rattle.mmt_tune.specs.declared.config.Config.{Config}
 use Rattle.mmt_model.specs.Admission.{has_parameters}
 use Rattle.mmt_model.specs.Entries.{Entry}
 use Rattle.mmt_model.specs.declared.keys.Part.{Part}
-use Rattle.mmt_naming.specs.Findings.{Finding, findings_by, findings_from, findings_in, notes_of}
+use Rattle.mmt_naming.specs.Findings.{Finding, findings_by, findings_from, notes_of}
 use Rattle.mmt_recv.specs.Session.{kept_by, live_of}
 use Rattle.mmt_sig.specs.declared.message.MessageWhy.{MessageWhy}
-use Rattle.mmt_sig.specs.Message.{AreRight, MessageValue}
+use Rattle.mmt_sig.specs.Message.{MessageValue}
 use Rattle.mmt_sig.specs.MessageReading.{message_of}
 use Rattle.mmt_sent.specs.Payloads.{Message, Written, as_signals, bytes_of, kind_of, left, written}
 use Rattle.mmt_headline.proofs.Payloads.{signals-read}

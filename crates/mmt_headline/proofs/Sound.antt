@@ -1,6 +1,5 @@
 -- What a programme that can be sent has, where the bytes of its packets ask for it.
-use Rattle.std.proofs.Common.{◌≡◌, ℕ, ◌+◌, ◌^◌, ◌<◌, ◌≤◌, Bool, true, false, nat_le, nat_lt, List, map, length, Option, Some, None, arith, refl}
-use Rattle.std.specs.List.{AllByRecursion}
+use Rattle.std.proofs.Common.{◌≡◌, ℕ, ◌+◌, ◌^◌, ◌<◌, ◌≤◌, List, length, None, arith}
 use Rattle.std.proofs.lemmas.List.Elements.{recursion_from_All}
 use Rattle.mmt_cast.proofs.FromRight.{right-programmes-fit}
 use Rattle.mmt_cast.proofs.Listing.{each-at}
@@ -8,7 +7,6 @@ use Rattle.mmt_cast.proofs.Theorem.{cast-right}
 use Rattle.mmt_cast.specs.Casting.{cast_of}
 use Rattle.mmt_cast.specs.FromRight.{FitsUnit}
 use Rattle.mmt_cast.specs.Placing.{PlacedUnit, all_units}
-use Rattle.mmt_cast.specs.Refusing.{refusal}
 use Rattle.mmt_cast.specs.Right.{IsMessage, IsRight, no_placed_unit, signal_at, unit_at}
 use Rattle.mmt_messages.proofs.Fitting.{right-bytes}
 use Rattle.mmt_messages.proofs.Found.{messages-found}
@@ -18,9 +16,8 @@ use Rattle.mmt_messages.specs.Found.{IsFound}
 use Rattle.mmt_messages.specs.Sent.{FitsBytes}
 use Rattle.mmt_model.specs.Admission.{fault_of_params}
 use Rattle.mmt_model.specs.Carrying.{IsCastOf}
-use Rattle.mmt_model.specs.declared.programmes.Params.{Params}
 use Rattle.mmt_model.specs.declared.programmes.Programme.{Programme}
-use Rattle.mmt_mpu.specs.Spelling.{HeadFits, KeyFits, RanksFit}
+use Rattle.mmt_mpu.specs.Spelling.{HeadFits}
 use Rattle.mmt_naming.specs.Findings.{names_in}
 use Rattle.mmt_sent.specs.Messages.{message_bytes}
 use Rattle.mmt_sent.specs.Stream.{addressing_of, contents_sent}

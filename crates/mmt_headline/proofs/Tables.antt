@@ -12,7 +12,7 @@ use Rattle.mmt_cast.proofs.Theorem.{cast-right}
 use Rattle.mmt_delivery.specs.Laws.{IsReceiver}
 use Rattle.mmt_delivery.specs.Tables.{IsAmong, IsOfCopy, MessagesAreSent, NamesAreLearned}
 use Rattle.mmt_delivery.proofs.Carried.{signal-is}
-use Rattle.mmt_sent.specs.Messages.{message_of_signal, message_bytes}
+use Rattle.mmt_sent.specs.Messages.{message_bytes}
 use Rattle.mmt_model.specs.Admission.{fault}
 use Rattle.mmt_model.specs.Broadcast.{no_entry}
 use Rattle.mmt_model.specs.Carrying.{Contents, IsCastOf, IsInItsPlace, copy_place, numbers, packets_of, payload_carried, role, table_copy}
@@ -39,11 +39,10 @@ use Rattle.mmt_times.specs.Learning.{has_same_times}
 use Rattle.mmt_tune.specs.Tuning.{rules_by}
 use Rattle.mmt_tune.specs.declared.config.Config.{Config}
 use Rattle.mmt_headline.specs.Programmes.{IsSendable, Receives}
-use Rattle.mmt_headline.specs.Names.{Agrees, IsLearned}
 use Rattle.mmt_headline.proofs.Told.{has_table}
 use Rattle.mmt_sent.specs.Stream.{contents_sent}
 use Rattle.mmt_headline.proofs.Keeping.{start-turned}
-use Rattle.mmt_headline.proofs.Learned.{names-quiet}
+use Rattle.mmt_headline.proofs.Learned.{Agrees, IsLearned, names-quiet}
 use Rattle.mmt_headline.proofs.Peaks.{became, outcome-is, turned-one}
 use Rattle.mmt_headline.proofs.Received.{is-receiver}
 use Rattle.mmt_model.specs.declared.casts.Carries.TheVariants as carries

@@ -3,35 +3,34 @@ use Rattle.std.proofs.Common.{◌≡◌, ◌⊎◌, inl, inr, ℕ, List, [], ◌
 use Rattle.std.proofs.lemmas.List.{append-nil}
 use Rattle.std.proofs.lemmas.List.Concat.{flat_map-append}
 use Rattle.mmt_cast.specs.Casting.{cast_of}
-use Rattle.mmt_io.specs.History.{Event, bytes_read, bytes_written}
+use Rattle.mmt_io.specs.History.{Event, bytes_read}
 use Rattle.mmt_model.specs.Delivery.{NearDelivery, newest_first}
 use Rattle.mmt_model.specs.Handing.{Presentation}
 use Rattle.mmt_model.specs.Survival.{AreOf}
 use Rattle.mmt_model.specs.declared.programmes.Programme.{Programme}
-use Rattle.mmt_output.specs.Records.{amount_of, record_of, records}
+use Rattle.mmt_output.specs.Records.{record_of, records}
 use Rattle.mmt_recv.specs.Noting.{noted}
 use Rattle.mmt_recv.specs.Receiving.{all_units, received, session_of, summary_of, units_left, units_out, values_of}
-use Rattle.mmt_stream.specs.Consuming.{Grows}
-use Rattle.mmt_stream.specs.Output.{IsPrefix, IsStartOf, Output, output_of}
-use Rattle.mmt_stream.specs.Streaming.{Ends, HasBegun, HasEnded, IsAllRead, Streams}
+use Rattle.mmt_stream.specs.Consuming.{Grows, Meaning}
+use Rattle.mmt_stream.specs.Output.{IsStartOf, Output, output_of}
+use Rattle.mmt_stream.specs.Streaming.{Ends, HasBegun, IsAllRead}
 use Rattle.mmt_stream.specs.declared.end.StreamEnd.{StreamEnd}
-use Rattle.mmt_stream.proofs.Outputs.{start_trans}
+use Rattle.mmt_stream.proofs.Outputs.{same_output, start_trans}
 use Rattle.mmt_take.specs.Taking.{line_of, placed, taking}
 use Rattle.mmt_take.specs.TakingGrows.{taking_grows}
 use Rattle.mmt_tlv.specs.Framing.{Framed, IsOutOfSync, Packet, joined, spelling}
 use Rattle.mmt_tlv.proofs.Unique.{one_framing, out_for_good, out_is_some, same_packet}
 use Rattle.mmt_tune.specs.Tuning.{Placed, packets_of as tlv_of}
 use Rattle.mmt_tune.specs.declared.config.Config.{Config}
-use Rattle.mmt_headline.specs.Notes.{StreamsAreQuiet}
 use Rattle.mmt_headline.specs.Programmes.{IsSendable, ProgrammesAreReceived, Receives}
-use Rattle.mmt_headline.specs.Peaks.{HasRoom, ReceiversHaveRoom}
 use Rattle.mmt_sent.specs.Stream.{stream_of}
 use Rattle.mmt_model.specs.Received.{tuned_places}
 use Rattle.mmt_headline.proofs.Framed.{streams-framed}
-use Rattle.mmt_headline.specs.Taken.{HasTaken, IsCutOff, TakesAStart, TakesAll, TakesDelivery, expected_of, placed_of}
+use Rattle.mmt_headline.specs.Taken.{TakesAStart, TakesDelivery, all_taken, expected_of, placed_of}
+use Rattle.mmt_stream.specs.declared.end.BrokenKind.TheVariants as kind
 use Rattle.mmt_stream.specs.declared.end.StreamEnd.TheVariants as end
 
-placed-packets : (packets : List Packet) → tlv_of (placed packets) ≡ packets
+pub placed-packets : (packets : List Packet) → tlv_of (placed packets) ≡ packets
 unfolding placed
 placed-packets [] = refl
 placed-packets (p ∷ older) = ap (λ (ps : List Packet). p ∷ ps) (placed-packets older)
@@ -50,37 +49,25 @@ end-noted : (config : Config) (packets : List Packet) → (let m = taking config
 unfolding received
 end-noted config packets = refl
 
-units-are : (config : Config) (programme : Programme) (files : ℕ → List ℕ) (delivery : List ℕ) → ProgrammesAreReceived → IsSendable programme files → Receives config programme → AreOf (cast_of programme).packets delivery → NearDelivery (cast_of programme).packets (tuned_places (cast_of programme) programme.full_every delivery)
+pub units-are : (config : Config) (programme : Programme) (files : ℕ → List ℕ) (delivery : List ℕ) → ProgrammesAreReceived → IsSendable programme files → Receives config programme → AreOf (cast_of programme).packets delivery → NearDelivery (cast_of programme).packets (tuned_places (cast_of programme) programme.full_every delivery)
     → all_units config (placed_of programme files delivery) ≡ expected_of programme files delivery
 unfolding placed_of
 units-are config programme files delivery theorem ok r of near =
     theorem config programme files delivery (placed (newest_first (stream_of programme files delivery))) ok r of near (placed-packets (newest_first (stream_of programme files delivery)))
 
-summary-units : (config : Config) (ps : List Placed) → ((summary_of config ps).units ≡ (amount_of (all_units config ps)).units) × ((summary_of config ps).bytes ≡ (amount_of (all_units config ps)).bytes)
-summary-units config ps = (refl, refl)
-
-at-end : (config : Config) (programme : Programme) (files : ℕ → List ℕ) (delivery : List ℕ) (events : List Event) → ProgrammesAreReceived → ReceiversHaveRoom → StreamsAreQuiet → IsSendable programme files → Receives config programme
+-- all that belongs to the end
+at-end : (config : Config) (programme : Programme) (files : ℕ → List ℕ) (delivery : List ℕ) → ProgrammesAreReceived → IsSendable programme files → Receives config programme
     → AreOf (cast_of programme).packets delivery → NearDelivery (cast_of programme).packets (tuned_places (cast_of programme) programme.full_every delivery)
-    → (let m = taking config in output_of events ≡ m.at_end (stream_of programme files delivery)) → HasTaken config programme files delivery events
+    → (let m = taking config in m.at_end (stream_of programme files delivery)) ≡ all_taken config programme files delivery
 unfolding placed_of
-at-end config programme files delivery events theorem room silence ok r of near is =
+at-end config programme files delivery theorem ok r of near =
     let packets : List Packet = stream_of programme files delivery in
-    let units : all_units config (placed (newest_first packets)) ≡ expected_of programme files delivery = units-are config programme files delivery theorem ok r of near in
-    let has : HasRoom config programme (placed (newest_first packets)) = room config programme files delivery (placed (newest_first packets)) ok r of near (placed-packets (newest_first packets)) in
-    record {
-      written = ap (λ (o : Output). o.written) is ∙ end-written config packets ∙ ap records units;
-      notes = ap (λ (o : Output). o.noted) is ∙ end-noted config packets;
-      quiet = silence config programme files delivery (placed (newest_first packets)) ok r of near (placed-packets (newest_first packets));
-      units = ap (λ (us : List Presentation). (amount_of us).units) units;
-      bytes = ap (λ (us : List Presentation). (amount_of us).bytes) units;
-      peak = has.peak;
-      full = has.full;
-    }
+    same_output ((taking config).at_end packets) (all_taken config programme files delivery) (end-written config packets ∙ ap records (units-are config programme files delivery theorem ok r of near)) (end-noted config packets)
 
 -- ---- a run that is done
 
-pub takes : ProgrammesAreReceived → ReceiversHaveRoom → StreamsAreQuiet → TakesDelivery
-takes theorem room silence config programme files delivery limit old new unread ok r of near s =
+pub takes : ProgrammesAreReceived → TakesDelivery
+takes theorem config programme files delivery limit old new unread ok r of near s =
     let packets : List Packet = stream_of programme files delivery in
     let ends : Ends (taking config) limit end.Done s.events unread = s.ends in
     let finished = ends.1 in
@@ -88,9 +75,9 @@ takes theorem room silence config programme files delivery limit old new unread 
     let framed : Framed (bytes_read s.events) packets [] = subst (λ (xs : List ℕ). Framed xs packets []) all (streams-framed programme files delivery ok of) in
     let same = one_framing (bytes_read s.events) ends.0 packets [] [] finished.framed framed in
     let m = taking config in
-    (s.events, s.passed.history, at-end config programme files delivery s.events theorem room silence ok r of near (finished.output ∙ ap (λ (ps : List Packet). m.at_end ps) same.0))
+    finished.output ∙ ap (λ (ps : List Packet). m.at_end ps) same.0 ∙ at-end config programme files delivery theorem ok r of near
 
--- ---- a run that is cut off
+-- ---- a run that ends in any way
 
 -- the packets of a start of the bytes are a start of the packets
 start-packets : (ps qs : List Packet) (rest : List ℕ) → joined ps ++ rest ≡ joined qs → (others : List Packet) × (qs ≡ ps ++ others)
@@ -101,57 +88,66 @@ start-packets (p ∷ ps) (q ∷ qs) rest e =
     let later = start-packets ps qs rest first.1 in
     (later.0, ap (λ (x : Packet). x ∷ qs) (sym first.0) ∙ ap (λ (xs : List Packet). p ∷ xs) later.1)
 
--- what went out is a start of what belongs to the end
-start-of : (config : Config) (packets read : List Packet) (tail unread : List ℕ) (events : List Event) → Framed (joined packets) packets [] → Framed (bytes_read events) read tail → joined packets ≡ bytes_read events ++ unread → IsAllRead events unread
-    → (let m = taking config in IsStartOf (output_of events) (m.so_far read) ⊎ (IsStartOf (output_of events) (m.at_end read) × (HasEnded events ⊎ IsOutOfSync tail)))
-    → (let m = taking config in IsStartOf (output_of events) (m.at_end packets))
-start-of config packets read tail unread events whole framed taken ended (inl begun) =
+-- what went out of the packets of a front of the bytes is a start of what belongs to the end
+start-of : (config : Config) (packets read : List Packet) (got tail left : List ℕ) (went : Output) → Framed (joined packets) packets [] → Framed got read tail → joined packets ≡ got ++ left
+    → (let m = taking config in IsStartOf went (m.so_far read) ⊎ (IsStartOf went (m.at_end read) × ((left ≡ []) ⊎ IsOutOfSync tail)))
+    → (let m = taking config in IsStartOf went (m.at_end packets))
+start-of config packets read got tail left went whole framed taken (inl begun) =
     let m = taking config in
     let grows : Grows m = taking_grows config in
-    let split : joined read ++ (tail ++ unread) ≡ joined packets = sym (append_assoc (joined read) tail unread) ∙ ap (λ (xs : List ℕ). xs ++ unread) (sym framed.whole) ∙ sym taken in
-    let others = start-packets read packets (tail ++ unread) split in
+    let split : joined read ++ (tail ++ left) ≡ joined packets = sym (append_assoc (joined read) tail left) ∙ ap (λ (xs : List ℕ). xs ++ left) (sym framed.whole) ∙ sym taken in
+    let others = start-packets read packets (tail ++ left) split in
     let more : IsStartOf (m.so_far read) (m.so_far packets) = subst (λ (ps : List Packet). IsStartOf (m.so_far read) (m.so_far ps)) (sym others.1) (grows.more read others.0) in
     start_trans _ _ _ begun (start_trans _ _ _ more (grows.end packets))
-start-of config packets read tail unread events whole framed taken ended (inr (begun, inl has)) =
+start-of config packets read got tail left went whole framed taken (inr (begun, inl none)) =
     let m = taking config in
-    let all : joined packets ≡ bytes_read events = taken ∙ ap (λ (xs : List ℕ). bytes_read events ++ xs) (ended has) ∙ append-nil (bytes_read events) in
-    let same = one_framing (bytes_read events) read packets tail [] framed (subst (λ (xs : List ℕ). Framed xs packets []) all whole) in
-    subst (λ (ps : List Packet). IsStartOf (output_of events) (m.at_end ps)) same.0 begun
-start-of config packets read tail unread events whole framed taken ended (inr (begun, inr out)) =
-    let good : Framed (bytes_read events ++ unread) read (tail ++ unread) = out_for_good (bytes_read events) unread read tail framed out in
-    let same = one_framing (bytes_read events ++ unread) read packets (tail ++ unread) [] good (subst (λ (xs : List ℕ). Framed xs packets []) taken whole) in
-    absurd (out_is_some tail unread out same.1)
+    let all : joined packets ≡ got = taken ∙ ap (λ (xs : List ℕ). got ++ xs) none ∙ append-nil got in
+    let same = one_framing got read packets tail [] framed (subst (λ (xs : List ℕ). Framed xs packets []) all whole) in
+    subst (λ (ps : List Packet). IsStartOf went (m.at_end ps)) same.0 begun
+start-of config packets read got tail left went whole framed taken (inr (begun, inr out)) =
+    let good : Framed (got ++ left) read (tail ++ left) = out_for_good got left read tail framed out in
+    let same = one_framing (got ++ left) read packets (tail ++ left) [] good (subst (λ (xs : List ℕ). Framed xs packets []) taken whole) in
+    absurd (out_is_some tail left out same.1)
 
-cut-off : (config : Config) (programme : Programme) (files : ℕ → List ℕ) (delivery : List ℕ) (events : List Event) (unread : List ℕ) → ProgrammesAreReceived → IsSendable programme files → Receives config programme
-    → AreOf (cast_of programme).packets delivery → NearDelivery (cast_of programme).packets (tuned_places (cast_of programme) programme.full_every delivery)
-    → joined (stream_of programme files delivery) ≡ bytes_read events ++ unread → IsAllRead events unread → HasBegun (taking config) events
-    → IsPrefix (bytes_written events) (records (expected_of programme files delivery))
-unfolding placed_of
-cut-off config programme files delivery events unread theorem ok r of near taken ended begun =
-    let packets : List Packet = stream_of programme files delivery in
-    let start = start-of config packets begun.0 begun.1 unread events (streams-framed programme files delivery ok of) begun.2 taken ended begun.3 in
-    let units : all_units config (placed (newest_first packets)) ≡ expected_of programme files delivery = units-are config programme files delivery theorem ok r of near in
-    subst (IsPrefix (bytes_written events)) (end-written config packets ∙ ap records units) start.written
+same-start : (a b : Output) → a ≡ b → IsStartOf a b
+same-start a b is = record {
+  written = ([], sym (ap (λ (o : Output). o.written) is) ∙ sym (append-nil a.written));
+  noted = ([], sym (ap (λ (o : Output). o.noted) is) ∙ sym (append-nil a.noted));
+}
+
+-- which packets were read of the bytes, and what went out of them
+record WentOut (m : Meaning) (whole : List ℕ) (went : Output) : Type 0 where
+  read : List Packet
+  got : List ℕ
+  tail : List ℕ
+  left : List ℕ
+  framed : Framed got read tail
+  taken : whole ≡ got ++ left
+  begun : IsStartOf went (m.so_far read) ⊎ (IsStartOf went (m.at_end read) × ((left ≡ []) ⊎ IsOutOfSync tail))
+
+module _ (m : Meaning) (limit : ℕ) (events : List Event) (unread whole : List ℕ) (taken : whole ≡ bytes_read events ++ unread) where
+  halted : HasBegun m events → IsAllRead events unread → WentOut m whole (output_of events)
+  halted (packets, tail, framed, inl begun) over = record { read = packets; got = bytes_read events; tail = tail; left = unread; framed = framed; taken = taken; begun = inl begun }
+  halted (packets, tail, framed, inr (begun, inl has)) over = record { read = packets; got = bytes_read events; tail = tail; left = unread; framed = framed; taken = taken; begun = inr (begun, inl (over has)) }
+  halted (packets, tail, framed, inr (begun, inr out)) over = record { read = packets; got = bytes_read events; tail = tail; left = unread; framed = framed; taken = taken; begun = inr (begun, inr out) }
+
+  went-out : (outcome : StreamEnd) → Ends m limit outcome events unread → WentOut m whole (output_of events)
+  went-out end.Done (packets, finished, ended, none, within) =
+      record { read = packets; got = bytes_read events; tail = []; left = unread; framed = finished.framed; taken = taken; begun = inr (same-start (output_of events) (m.at_end packets) finished.output, inl none) }
+  went-out (end.Broken kind.Sync place) (packets, tail, finished, out, at, within) =
+      record { read = packets; got = bytes_read events; tail = tail; left = unread; framed = finished.framed; taken = taken; begun = inr (same-start (output_of events) (m.at_end packets) finished.output, inr out) }
+  went-out (end.Broken kind.Cut place) (packets, tail, finished, front, some, at, ended, none, within) =
+      record { read = packets; got = bytes_read events; tail = tail; left = unread; framed = finished.framed; taken = taken; begun = inr (same-start (output_of events) (m.at_end packets) finished.output, inl none) }
+  went-out end.TooLong (packets, tail, seen, byte, read, full, framed, front, output, going) =
+      record { read = packets; got = seen; tail = tail; left = byte ∷ unread; framed = framed; taken = taken ∙ ap (λ (xs : List ℕ). xs ++ unread) read ∙ append_assoc seen (byte ∷ []) unread; begun = inl (same-start (output_of events) (m.so_far packets) output) }
+  went-out end.ReadFault (packets, tail, shown, front, within) =
+      record { read = packets; got = bytes_read events; tail = tail; left = unread; framed = shown.framed; taken = taken; begun = inl (same-start (output_of events) (m.so_far packets) shown.output) }
+  went-out end.WriteFault (begun, over, within) = halted begun over
+  went-out end.OutOfMemory (begun, over, within) = halted begun over
 
 pub takes-start : ProgrammesAreReceived → TakesAStart
-takes-start theorem config programme files delivery limit outcome old new unread ok r of near cut s =
-    let e = ends-by outcome cut s.ends in cut-off config programme files delivery s.events unread theorem ok r of near s.passed.taken e.1 e.0
-  where
-    ends-by : (outcome : StreamEnd) → IsCutOff outcome → Ends (taking config) limit outcome s.events unread → HasBegun (taking config) s.events × IsAllRead s.events unread
-    ends-by outcome (inl e) ends = let x = subst (λ (o : StreamEnd). Ends (taking config) limit o s.events unread) e ends in (x.0, x.1)
-    ends-by outcome (inr e) ends = let x = subst (λ (o : StreamEnd). Ends (taking config) limit o s.events unread) e ends in (x.0, x.1)
-
--- ---- a run in which no call failed
-
-done-of : (config : Config) (limit : ℕ) (outcome : StreamEnd) (old new : List Event) (left unread : List ℕ) → outcome ≡ end.Done → Streams (taking config) limit outcome old new left unread → Streams (taking config) limit end.Done old new left unread
-done-of config limit outcome old new left unread e s = subst (λ (o : StreamEnd). Streams (taking config) limit o old new left unread) e s
-
-pub takes-all : ProgrammesAreReceived → ReceiversHaveRoom → StreamsAreQuiet → TakesAll
-takes-all theorem room silence config programme files delivery limit outcome old new unread reads reads' writes writes' ok r of near does short no_read no_write =
-    by-end (does.complete (stream_of programme files delivery) (streams-framed programme files delivery ok of) short no_read no_write)
-  where
-    by-end : (outcome ≡ end.Done) ⊎ (outcome ≡ end.OutOfMemory) → ((events : List Event) × (outcome ≡ end.Done) × (new ≡ old ++ events) × HasTaken config programme files delivery events) ⊎ (outcome ≡ end.OutOfMemory)
-    by-end (inl e) =
-        let t = takes theorem room silence config programme files delivery limit old new unread ok r of near (done-of config limit outcome old new (joined (stream_of programme files delivery)) unread e does.streams) in
-        inl (t.0, e, t.1, t.2)
-    by-end (inr e) = inr e
+takes-start theorem config programme files delivery limit outcome old new unread ok r of near s =
+    let packets : List Packet = stream_of programme files delivery in
+    let w = went-out (taking config) limit s.events unread (joined packets) s.passed.taken outcome s.ends in
+    subst (IsStartOf (output_of s.events)) (at-end config programme files delivery theorem ok r of near)
+    (start-of config packets w.read w.got w.tail w.left (output_of s.events) (streams-framed programme files delivery ok of) w.framed w.taken w.begun)

@@ -13,7 +13,6 @@ use Rattle.mmt_sent.specs.Messages.{message_bytes}
 use Rattle.mmt_model.specs.declared.casts.Carries.{Carries}
 use Rattle.mmt_model.specs.declared.casts.Sent.{Sent}
 use Rattle.mmt_model.specs.declared.programmes.Programme.{Programme}
-use Rattle.mmt_mpt.specs.Table.{mpt_spelling}
 use Rattle.mmt_naming.specs.Findings.{Naming, findings_in, names_in}
 use Rattle.mmt_sent.specs.Messages.{message_bytes}
 use Rattle.mmt_sig.specs.MessageReading.{message_of}

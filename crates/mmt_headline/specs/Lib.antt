@@ -3,8 +3,8 @@ pub mod Tuning
 pub mod Joining
 pub mod Programmes
 pub mod Peaks
-pub mod Names
 pub mod Notes
 pub mod Taken
 pub mod GivesBack
 pub mod PlanOne
+pub mod WholeCasts

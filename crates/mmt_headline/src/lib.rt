@@ -6,4 +6,5 @@ pub mod bytes_heard;
 pub mod definitions_agree;
 pub mod programmes_received;
 pub mod take_runs;
+pub mod whole_casts;
 pub mod worked_plan;

@@ -3,7 +3,6 @@
 ghost use Rattle.mmt_headline.specs.Programmes.{CastsAreSent, CastsTune, StreamsAreFramed, ProgrammesAreReceived};
 ghost use Rattle.mmt_headline.specs.Peaks.{ReceiversKeepTo, ReceiversHaveRoom};
 ghost use Rattle.mmt_headline.specs.Notes.{NotesAreQuiet, StreamsAreQuiet};
-ghost use Rattle.mmt_headline.specs.Names.{LearnedNamesAreQuiet};
 
 use mmt_delivery::{
     delivery_theorem, messages_are_sent, names_are_learned, only_late_and_repeats,
@@ -66,8 +65,3 @@ pub fn streams_are_quiet()
     names_are_learned();
     messages_are_sent();
 }
-
-/// Names of a message that are all learned, and differ from none that is kept, leave nothing to be noted.
-pub fn learned_names_are_quiet()
-    ensures { LearnedNamesAreQuiet }
-{}

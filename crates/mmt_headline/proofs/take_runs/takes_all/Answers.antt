@@ -1,5 +1,0 @@
-use Rattle.mmt_headline.proofs.take_runs.takes_all.Goals as goal
-use Rattle.mmt_headline.proofs.Taken.{takes-all as law}
-
-pub returns : goal.returns
-returns c = law c.programmes_are_received.ensures c.receivers_have_room.ensures c.streams_are_quiet.ensures
