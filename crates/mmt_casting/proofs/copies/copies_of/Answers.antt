@@ -1,0 +1,47 @@
+use Rattle.std.proofs.Common.{◌≡◌, ◌<◌, ◌≤◌, ◌+◌, List, length, get_or, arith, ap, sym, ◌∙◌}
+use Rattle.mmt_cast.specs.Refusing.{refusal_of_signals}
+use Rattle.mmt_casting.proofs.Announced.{message-numbers, number-first, number-more}
+use Rattle.mmt_casting.proofs.Copied.{copies-done, copies-more, copies-none, names-known}
+use Rattle.mmt_casting.proofs.Counts.{signal-here, signals-later, tables-none}
+use Rattle.mmt_model.specs.declared.programmes.Signal.{Signal}
+use Rattle.mmt_casting.proofs.copies.copies_of.Goals as goal
+
+pub loop-s-init : goal.loop-s-init
+loop-s-init c = record {
+  copies = c.new-copies.ensures.items ∙ copies-none c.args.programme.now;
+  number = sym (number-first c.args.programme.now);
+  short = ap (refusal_of_signals c.args.programme.now 0) c.as_slice-signals.ensures ∙ tables-none c.args.programme.now c.requires.none;
+}
+
+pub copy_of-requires-clause-known : goal.copy_of-requires-clause-known
+copy_of-requires-clause-known c =
+    let here : c.index-signals-s.result ≡ get_or c.args.programme.now.signals c.loop-s.s c.index-signals-s.result = c.index-signals-s.is ∙ ap (λ xs. get_or xs c.loop-s.s c.index-signals-s.result) c.as_slice-signals.ensures in
+    let l : c.loop-s.s < length c.args.programme.now.signals = omega (arith, c.loop-s-test.true, ap (λ (xs : List Signal). length xs) c.as_slice-signals.ensures) in
+    names-known c.args.programme.now c.requires.right c.loop-s.s c.index-signals-s.result c.index-signals-s.result l here
+
+pub copy_of-requires-clause-short : goal.copy_of-requires-clause-short
+copy_of-requires-clause-short c = signal-here c.args.programme.now c.loop-s.s c.as_slice-signals.result.now c.index-signals-s.result c.loop-s-test.true c.index-signals-s.is c.loop-s.invariant.short
+
+pub message_packets-number-requires-clause-short : goal.message_packets-number-requires-clause-short
+message_packets-number-requires-clause-short c = signal-here c.args.programme.now c.loop-s.s c.as_slice-signals.result.now c.index-signals-s.result c.loop-s-test.true c.index-signals-s.is c.loop-s.invariant.short
+
+pub overflow_add-number : goal.overflow_add-number
+overflow_add-number c =
+    let here : c.index-signals-s.result ≡ get_or c.args.programme.now.signals c.loop-s.s c.index-signals-s.result = c.index-signals-s.is ∙ ap (λ xs. get_or xs c.loop-s.s c.index-signals-s.result) c.as_slice-signals.ensures in
+    let l : c.loop-s.s < length c.args.programme.now.signals = omega (arith, c.loop-s-test.true, ap (λ (xs : List Signal). length xs) c.as_slice-signals.ensures) in
+    omega (arith, message-numbers c.args.programme.now c.loop-s.s c.index-signals-s.result c.index-signals-s.result c.requires.none l here, c.loop-s.invariant.number, c.message_packets-number.ensures.count)
+
+pub loop-s-preserved : goal.loop-s-preserved
+loop-s-preserved c =
+    let here : c.index-signals-s.result ≡ get_or c.args.programme.now.signals c.loop-s.s c.index-signals-s.result = c.index-signals-s.is ∙ ap (λ xs. get_or xs c.loop-s.s c.index-signals-s.result) c.as_slice-signals.ensures in
+    let l : c.loop-s.s < length c.args.programme.now.signals = omega (arith, c.loop-s-test.true, ap (λ (xs : List Signal). length xs) c.as_slice-signals.ensures) in
+    record {
+      copies = copies-more c.args.programme.now c.requires.right c.loop-s.s c.loop-s.number c.index-signals-s.result c.index-signals-s.result c.loop-s.copies.items c.put_copy.new.copies.items _ l here c.loop-s.invariant.number c.loop-s.invariant.copies
+          c.in_ok-put_copy.ensures c.in_ok-copy.ensures;
+      number = omega (arith, number-more c.args.programme.now c.loop-s.s c.index-signals-s.result c.index-signals-s.result l here, c.loop-s.invariant.number, c.message_packets-number.ensures.count);
+      short = signals-later c.args.programme.now c.loop-s.s c.as_slice-signals.result.now c.index-signals-s.result c.loop-s-test.true c.index-signals-s.is c.loop-s.invariant.short;
+    }
+
+pub returns : goal.returns
+returns c =
+    copies-done c.args.programme.now c.loop-s.s c.loop-s.copies.items (omega (arith, c.loop-s-test.false, ap (λ (xs : List Signal). length xs) c.as_slice-signals.ensures)) c.loop-s.invariant.copies

@@ -1,0 +1,57 @@
+-- How a packet is addressed, and how long its body is.
+use Rattle.std.proofs.Common.{◌≡◌, ℕ, ◌+◌, ◌%◌, ◌<◌, ◌≤◌, Bool, true, false, ◌==◌, cond, List, [], ◌++◌, length, Option, Some, None, arith, refl, sym, ap, subst, ◌∙◌, eq-eqb}
+use Rattle.std.proofs.lemmas.Bool.{ne_eqb}
+use Rattle.std.proofs.lemmas.List.{length-append}
+use Rattle.mmt_fields.proofs.Numbers.{length_big_endian}
+use Rattle.mmt_ip.specs.declared.packet.Ip6Header.{Ip6Header}
+use Rattle.mmt_ip.specs.Spelling.{Value as Datagram, spelling as datagram_spelling}
+use Rattle.mmt_ctx.specs.Spelling.{Value as Compressed, full_header, spelling as compressed_spelling}
+use Rattle.mmt_ctx.specs.Squeezing.{IsAtCall, Squeezing, packet_at}
+use Rattle.mmt_send.specs.Calls.{IsAt}
+use Rattle.mmt_send.specs.declared.addressing.Addresser.{Addresser}
+use Rattle.mmt_tlv.specs.Framing.{Packet as Tlv}
+use Rattle.mmt_sent.specs.Packets.{Addressing, addressed, squeezing}
+
+pub datagram-long : (v : Datagram) → length (datagram_spelling v) ≡ 48 + length v.payload
+unfolding datagram_spelling
+datagram-long v = simp (length-append, length_big_endian) (omega arith)
+
+header-long : (h : Ip6Header) → length (full_header h) ≡ 42
+unfolding full_header
+header-long h = simp (length-append, length_big_endian) refl
+
+compressed-long : (context number : ℕ) (header : Option Ip6Header) (payload : List ℕ) → length payload ≤ 65000 → length (compressed_spelling (record { context = context; number = number; header = header; payload = payload })) < 65536
+unfolding compressed_spelling
+compressed-long context number None payload lt = simp (length-append, length_big_endian) (omega arith)
+compressed-long context number (Some h) payload lt = simp (length-append, length_big_endian) (omega (arith, header-long h))
+
+pub plain-short : (out : List ℕ) (v : Datagram) → out ≡ datagram_spelling v → length v.payload ≤ 65000 → length out < 65536
+plain-short out v e l = omega (arith, ap (λ (xs : List ℕ). length xs) e, datagram-long v)
+
+pub squeezed-short : (call : ℕ) (s : Squeezing) (out payload : List ℕ) → out ≡ compressed_spelling (packet_at call s payload) → length payload ≤ 65000 → length out < 65536
+squeezed-short call s out payload e l = omega (arith, ap (λ (xs : List ℕ). length xs) e, compressed-long s.context (call % 16) (cond (call % s.full_every == 0) (Some s.header) None) payload l)
+
+
+pub plain-addressed : (a : Addressing) (call : ℕ) (header : Ip6Header) (payload out : List ℕ) → a.full_every ≡ 0 → header ≡ a.header → out ≡ datagram_spelling (record { header = header; summed = true; payload = payload })
+    → addressed a call payload ≡ record { kind = 2; body = out }
+unfolding addressed
+plain-addressed a call header payload out none same e =
+    ap (λ (b : Bool). cond b (record { kind = 2; body = datagram_spelling (record { header = a.header; summed = true; payload = payload }) }) (record { kind = 3; body = compressed_spelling (packet_at call (squeezing a call) payload) }))
+    (eq-eqb a.full_every 0 none)
+    ∙ ap (λ (body : List ℕ). let t : Tlv = record { kind = 2; body = body } in t) (ap (λ (h : Ip6Header). datagram_spelling (record { header = h; summed = true; payload = payload })) (sym same) ∙ sym e)
+
+pub squeezed-addressed : (a : Addressing) (call : ℕ) (s : Squeezing) (payload out : List ℕ) → (a.full_every ≡ 0 → ⊥) → s.context ≡ a.context → s.full_every ≡ a.full_every → s.header ≡ a.header
+    → out ≡ compressed_spelling (packet_at call s payload) → addressed a call payload ≡ record { kind = 3; body = out }
+unfolding addressed
+squeezed-addressed a call s payload out some context every header e =
+    let same : packet_at call (squeezing a call) payload ≡ packet_at call s payload = cc in
+    ap (λ (b : Bool). cond b (record { kind = 2; body = datagram_spelling (record { header = a.header; summed = true; payload = payload }) }) (record { kind = 3; body = compressed_spelling (packet_at call (squeezing a call) payload) }))
+    (ne_eqb a.full_every 0 some)
+    ∙ ap (λ (body : List ℕ). let t : Tlv = record { kind = 3; body = body } in t) (ap compressed_spelling same ∙ sym e)
+
+-- what is appended to nothing stands alone
+pub alone : (out old x : List ℕ) → old ≡ [] → out ≡ old ++ x → out ≡ x
+alone out old x none e = e ∙ ap (λ (xs : List ℕ). xs ++ x) none
+
+pub at-variant : (a : Addressing) (call : ℕ) (s v : Addresser) → s ≡ v → IsAt a call s → IsAt a call v
+at-variant a call s v e is = subst (IsAt a call) e is

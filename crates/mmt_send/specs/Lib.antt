@@ -1,0 +1,5 @@
+pub mod Files
+pub mod Calls
+pub mod Carried
+pub mod Holding
+pub mod Writes
