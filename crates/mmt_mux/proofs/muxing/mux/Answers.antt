@@ -24,17 +24,17 @@ pub returns-in-Ok-send-clause-muxes : goal.returns-in-Ok-send-clause-muxes
 returns-in-Ok-send-clause-muxes g c = λ told ported.
     let file = g.H.Shelf.file c.args.shelf.now in
     let is = is_sendable file c.args.name.now c.in-Ok.both.0 (c.in-Ok.ensures.read told) c.in-Ok.ensures.none (ap fault (sym c.in-Ok.ensures.cast) ∙ c.in-Ok-admit.ensures.none) in
-    all_sent file (g.H.Shelf.file c.read.new.shelf) (sendable file c.args.name.now) c.in-Ok.both.0 (g.P.Port.history c.args.port.now) (g.P.Port.history c.send.new._port) (c.in-Ok.ensures.shelf.files told) is (c.in-Ok-send.ensures.writes (c.in-Ok.ensures.shelf.tells ∙ told) ported)
+    all_sent file (g.H.Shelf.file c.read.new.shelf) (sendable file c.args.name.now) c.in-Ok.both.0 (g.P.Port.history c.args.port.now) (g.P.Port.history c.send.new.port) (c.in-Ok.ensures.shelf.files told) is (c.in-Ok-send.ensures.done (c.in-Ok.ensures.shelf.tells ∙ told) ported)
 
 pub returns-clause-answer : goal.returns-clause-answer
 returns-clause-answer g c = λ told.
     let file = g.H.Shelf.file c.args.shelf.now in
     let checks = sendable file c.args.name.now in
     subst (λ end. IsMuxAnswer checks (Err end)) (sym c.end_of_send.ensures)
-    (send_ended file (g.H.Shelf.file c.read.new.shelf) checks c.in-Ok.both.0 c.in-Ok.both.1 c.in-Err-send.end (c.in-Ok.ensures.shelf.files told) (c.in-Ok.ensures.read told).files (λ unit size held e. c.in-Err-send.ensures.short (c.in-Ok.ensures.shelf.tells ∙ told) unit size held (ap (λ x. Err x) e)))
+    (send_ended file (g.H.Shelf.file c.read.new.shelf) checks c.in-Ok.both.0 c.in-Ok.both.1 _ _ _ c.in-Err-send.end (c.in-Ok.ensures.shelf.files told) (c.in-Ok.ensures.read told).files (c.in-Ok.ensures.shelf.tells ∙ told) c.in-Err-send.ensures.cause)
 
 pub returns-clause-muxes : goal.returns-clause-muxes
 returns-clause-muxes g c = λ told ported.
     let file = g.H.Shelf.file c.args.shelf.now in
     let is = is_sendable file c.args.name.now c.in-Ok.both.0 (c.in-Ok.ensures.read told) c.in-Ok.ensures.none (ap fault (sym c.in-Ok.ensures.cast) ∙ c.in-Ok-admit.ensures.none) in
-    part_sent file (g.H.Shelf.file c.read.new.shelf) (sendable file c.args.name.now) c.in-Ok.both.0 c.end_of_send.result (g.P.Port.history c.args.port.now) (g.P.Port.history c.send.new._port) (c.in-Ok.ensures.shelf.files told) is (c.in-Err-send.ensures.writes (c.in-Ok.ensures.shelf.tells ∙ told) ported)
+    part_sent file (g.H.Shelf.file c.read.new.shelf) (sendable file c.args.name.now) c.in-Ok.both.0 c.end_of_send.result (g.P.Port.history c.args.port.now) (g.P.Port.history c.send.new.port) (c.in-Ok.ensures.shelf.files told) is (c.in-Err-send.ensures.begun (c.in-Ok.ensures.shelf.tells ∙ told) ported)
