@@ -76,7 +76,7 @@ const AGAINST: [(&str, &str, usize, &str); 11] = [
         "[[0,0]]",
         "[[0,1]]",
         3500,
-        "plan: no-such-mpu at signal 0 0 0 field 3",
+        "plan: no-such-mpu at signal 1 0 0 field 3",
     ),
     (
         "v.bin",
