@@ -2,6 +2,7 @@ pub mod GivingBack
 pub mod Listing
 pub mod ListingGrows
 pub mod Moments
+pub mod Muxing
 pub mod Peaks
 pub mod Promise
 pub mod Statuses

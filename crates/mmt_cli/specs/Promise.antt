@@ -5,6 +5,7 @@ use Rattle.mmt_cli.specs.Listing.{Lists}
 use Rattle.mmt_cli.specs.Peaks.{Peaks}
 use Rattle.mmt_cli.specs.Takes.{Takes, config_of}
 use Rattle.mmt_cli.specs.Moments.{Moment, Faults}
+use Rattle.mmt_cli.specs.Muxing.{ReadsNothing}
 use Rattle.mmt_cli.specs.declared.status.Status.{Status}
 use Rattle.mmt_cli.specs.declared.status.Status.TheVariants as status
 use Rattle.mmt_command.specs.declared.words.Command.{Command}
@@ -19,9 +20,11 @@ abbrev pub HasCauses : Command → Status → Faults → Faults → Type 0
 HasCauses command.List outcome old new = HasPortCauses outcome old new
 HasCauses (command.Peak flow params) outcome old new = HasPortCauses outcome old new
 HasCauses (command.Take options) outcome old new = HasPortCauses outcome old new
+HasCauses command.Mux outcome old new = (outcome ≡ status.ReadFault → Rose old.shelf new.shelf) × (outcome ≡ status.WriteFault → Rose old.writes new.writes)
 
 -- what a run of the command does, from the moment before it to the one after it
 abbrev pub Promises : Command → ℕ → Status → Moment → Moment → Type 0
 Promises command.List limit outcome old new = Lists limit outcome old new
 Promises (command.Peak flow params) limit outcome old new = Peaks flow params limit outcome old new
 Promises (command.Take options) limit outcome old new = Takes (config_of options) limit outcome old new
+Promises command.Mux limit outcome old new = ReadsNothing old new

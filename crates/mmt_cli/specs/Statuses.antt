@@ -1,5 +1,7 @@
 -- The statuses of the program, which are this project's own.
-use Rattle.std.specs.Prelude.{ℕ}
+use Rattle.std.specs.Prelude.{ℕ, Result, Ok, Err}
+use Rattle.mmt_mux.specs.declared.ends.MuxEnd.{MuxEnd}
+use Rattle.mmt_mux.specs.declared.ends.MuxEnd.TheVariants as muxes
 use Rattle.mmt_stream.specs.declared.end.StreamEnd.{StreamEnd}
 use Rattle.mmt_stream.specs.declared.end.StreamEnd.TheVariants as end
 use Rattle.mmt_cli.specs.declared.status.Status.{Status}
@@ -14,6 +16,19 @@ status_of (end.Broken kind place) = status.Broken kind place
 status_of end.OutOfMemory = status.OutOfMemory
 status_of end.TooLong = status.TooLong
 
+-- the status of `mux`
+abbrev pub status_of_mux : MuxEnd → Status
+status_of_mux (muxes.Refused reason place) = status.PlanRefused reason place
+status_of_mux (muxes.NotAdmitted refusal) = status.NotAdmitted refusal
+status_of_mux muxes.ReadFault = status.ReadFault
+status_of_mux muxes.WriteFault = status.WriteFault
+status_of_mux muxes.OutOfMemory = status.OutOfMemory
+
+-- the status of a run of `mux`, which is done where it does not end before
+abbrev pub status_of_run : Result (Unit {0}) MuxEnd → Status
+status_of_run (Ok x) = status.Done
+status_of_run (Err end) = status_of_mux end
+
 -- the number with which the program ends
 abbrev pub number_of : Status → ℕ
 number_of status.Done = 0
@@ -21,5 +36,7 @@ number_of (status.Usage index) = 1
 number_of status.ReadFault = 2
 number_of status.WriteFault = 3
 number_of (status.Broken kind place) = 4
+number_of (status.PlanRefused reason place) = 5
+number_of (status.NotAdmitted refusal) = 6
 number_of status.OutOfMemory = 7
 number_of status.TooLong = 8

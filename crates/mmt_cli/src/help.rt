@@ -34,6 +34,10 @@ commands:
             --assume       for streams that hold no buffer message: the window and the delay in ticks, the delay
                            1 to 16777215, the window above it and at most 16777216 (not assumed where it is not given)
             (the options in any order, each at most once; at most 1099511627776 bytes are read)
+  mux PLAN  reads a programme's plan from the file PLAN, and the files that it names, and writes the programme's stream
+            of TLV packets to standard output. The plan, the lengths of what is sent, the files and the admission are
+            checked in this order, and nothing is written where a check fails
+            (no options; standard input is not read)
 
 statuses, and what is printed on standard error after 'mmt: ':
   0         done
@@ -42,6 +46,11 @@ statuses, and what is printed on standard error after 'mmt: ':
   3         write fault             a write failed
   4         broken: cut at P        the input ends within the packet at P
             broken: sync at P       the byte at P should be 7F and is not
+  5         plan: REASON at PART A B C field F
+                                    the plan or one of its files is refused: PART is top, signal, asset, mpu, au or unit,
+                                    A, B and C count from 0, and F is the member's number from 1 on, or 0
+  6         not admitted: RULE N FOUND ALLOWED
+                                    what would be sent breaks a rule, A1 to A10, first at number N
   7         out of memory
   8         too long                the input has more bytes than can be read
 ";

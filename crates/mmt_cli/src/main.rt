@@ -5,6 +5,9 @@
 mod delivery_tests;
 mod help;
 mod list;
+mod mux;
+#[cfg(test)]
+mod mux_tests;
 #[cfg(test)]
 mod note_tests;
 mod peak;
@@ -24,7 +27,7 @@ mod worked;
 #[cfg(test)]
 mod worked_tests;
 
-use mmt_io::{MemoryShelf, Port, RealPort};
+use mmt_io::{Port, RealPort, RealShelf};
 use run::run;
 use status::Status;
 use std::process::ExitCode;
@@ -62,7 +65,7 @@ fn done<P: Port>(rt: &HostRuntime, words: &[String], port: &mut P) -> Status {
             Err(_) => Status::WriteFault,
         };
     }
-    let mut shelf = MemoryShelf::new(rt.alloc(), Vec::new(rt.alloc()));
+    let mut shelf = RealShelf::new(*rt);
     run(rt.alloc(), words, port, &mut shelf)
 }
 

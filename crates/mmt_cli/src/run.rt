@@ -1,15 +1,17 @@
 //! The top call: from the words of the command line to the status.
-ghost use Rattle.std.specs.Prelude.{◌≡◌, ℕ, ◌^◌, ◌≤◌, IsTrue};
+ghost use Rattle.std.specs.Prelude.{◌≡◌, ℕ, ◌^◌, ◌≤◌, List, IsTrue};
 ghost use Rattle.mmt_command.specs.Words.{texts, IsWrongAt};
-ghost use Rattle.mmt_command.specs.Commands.{Asks, IsCommand};
+ghost use Rattle.mmt_command.specs.Commands.{Asks, IsCommand, mux_words};
 ghost use Rattle.mmt_cli.specs.Moments.{moment, faults};
 ghost use Rattle.mmt_cli.specs.GivingBack.{GivesBack};
+ghost use Rattle.mmt_cli.specs.Muxing.{Muxes};
 ghost use Rattle.mmt_cli.specs.Promise.{HasCauses, Promises};
 ghost use Rattle.mmt_cli.specs.Takes.{config_of};
 ghost use Rattle.mmt_command.specs.declared.take_words.TakeOptions.{TakeOptions};
 ghost use Rattle.mmt_command.specs.declared.words.Command.{Command};
 
 use crate::list::list_within;
+use crate::mux::mux_within;
 use crate::peak::peak_within;
 use crate::status::Status;
 use crate::take::{configured, take_within};
@@ -45,6 +47,13 @@ pub fn run_within<P: Port, H: Shelf>(
         (P.write_faults port.old))
         (moment (P.history port.new) (P.left port.new) (P.read_faults port.new)
         (P.write_faults port.new)) }
+    // `mux` writes the stream of its plan, or the first reason why it is not sent is the status.
+    ensures sends { IsTrue (P.tells port.old) → IsTrue (H.tells shelf.old) → (name : List ℕ) →
+        texts words.now ≡ mux_words name → Muxes (H.file shelf.old) name result
+        (moment (P.history port.old) (P.left port.old) (P.read_faults port.old)
+        (P.write_faults port.old))
+        (moment (P.history port.new) (P.left port.new) (P.read_faults port.new)
+        (P.write_faults port.new)) }
     // Of a near delivery of a programme `take` writes exactly the units whose packets and one naming table survived.
     ensures gives_back { IsTrue (P.tells port.old) → (options : TakeOptions) →
         Asks (Command.Take options) (texts words.now) →
@@ -61,6 +70,7 @@ pub fn run_within<P: Port, H: Shelf>(
             take_gives_back();
             take_within(alloc, port, configured(&options), limit)
         }
+        Ok(Command::Mux) => mux_within(alloc, words[1].as_str(), port, shelf),
         Err(index) => Status::Usage { index },
     }
 }
@@ -86,6 +96,13 @@ pub fn run<P: Port, H: Shelf>(
     // Each command does what it promises.
     ensures promise { IsTrue (P.tells port.old) → (command : Command) →
         Asks command (texts words.now) → Promises command (2 ^ 40) result
+        (moment (P.history port.old) (P.left port.old) (P.read_faults port.old)
+        (P.write_faults port.old))
+        (moment (P.history port.new) (P.left port.new) (P.read_faults port.new)
+        (P.write_faults port.new)) }
+    // `mux` writes the stream of its plan, or the first reason why it is not sent is the status.
+    ensures sends { IsTrue (P.tells port.old) → IsTrue (H.tells shelf.old) → (name : List ℕ) →
+        texts words.now ≡ mux_words name → Muxes (H.file shelf.old) name result
         (moment (P.history port.old) (P.left port.old) (P.read_faults port.old)
         (P.write_faults port.old))
         (moment (P.history port.new) (P.left port.new) (P.read_faults port.new)

@@ -2,6 +2,9 @@
 ghost use Rattle.std.specs.Prelude.{◌≡◌};
 ghost use Rattle.mmt_cli.specs.Statuses.{status_of};
 
+use mmt_admit::NotAdmitted;
+use mmt_mux::MuxEnd;
+use mmt_plan::{PlanPlace, Reason};
 use mmt_stream::{BrokenKind, StreamEnd};
 use std::fmt;
 
@@ -18,6 +21,10 @@ pub enum Status {
     WriteFault,
     /// The input is whole packets up to this place, and no packet stands there.
     Broken { kind: BrokenKind, place: u64 },
+    /// The plan or one of its files is refused: the first reason, and its place in the plan.
+    PlanRefused { reason: Reason, place: PlanPlace },
+    /// The cast of the plan is not admitted: its first fault.
+    NotAdmitted { refusal: NotAdmitted },
     /// There was no memory.
     OutOfMemory,
     /// The input has more bytes than the limit.
@@ -39,6 +46,22 @@ impl From<StreamEnd> for Status {
     }
 }
 
+impl From<MuxEnd> for Status {
+    ghost use Rattle.mmt_cli.specs.Statuses.{status_of_mux};
+
+    ghost from_gives = { λ end status. status ≡ status_of_mux end };
+
+    fn from(end: MuxEnd) -> Status {
+        match end {
+            MuxEnd::Refused { reason, place } => Status::PlanRefused { reason, place },
+            MuxEnd::NotAdmitted(refusal) => Status::NotAdmitted { refusal },
+            MuxEnd::ReadFault => Status::ReadFault,
+            MuxEnd::WriteFault => Status::WriteFault,
+            MuxEnd::OutOfMemory => Status::OutOfMemory,
+        }
+    }
+}
+
 impl Status {
     ghost use Rattle.mmt_cli.specs.Statuses.{number_of};
 
@@ -52,6 +75,8 @@ impl Status {
             Status::ReadFault => 2,
             Status::WriteFault => 3,
             Status::Broken { .. } => 4,
+            Status::PlanRefused { .. } => 5,
+            Status::NotAdmitted { .. } => 6,
             Status::OutOfMemory => 7,
             Status::TooLong => 8,
         }
@@ -74,6 +99,8 @@ impl fmt::Display for Status {
                 kind: BrokenKind::Sync,
                 place,
             } => write!(f, "broken: sync at {place}"),
+            Status::PlanRefused { reason, place } => write!(f, "plan: {reason} at {place}"),
+            Status::NotAdmitted { refusal } => write!(f, "{refusal}"),
             Status::OutOfMemory => write!(f, "out of memory"),
             Status::TooLong => write!(f, "too long"),
         }

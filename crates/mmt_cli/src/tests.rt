@@ -4,7 +4,9 @@ ghost use Rattle.std.specs.Prelude.{◌≤◌, ◌^◌, [], false};
 use crate::help::{HELP, VERSION, answer_to};
 use crate::run::{run, run_within};
 use crate::status::Status;
+use mmt_admit::{NotAdmitted, Rule};
 use mmt_io::{CallKind, FailAt, Fault, MemoryPort, MemoryShelf, Port};
+use mmt_plan::{PlanPart, PlanPlace, Reason};
 use mmt_stream::BrokenKind;
 use std::alloc::{AllocError, Global};
 use std::test::Fail;
@@ -201,12 +203,14 @@ fn lists_the_same_in_any_pieces(rt: HostRuntime) -> Result<(), Fail> {
 #[test]
 fn refuses_wrong_words(rt: HostRuntime) -> Result<(), Fail> {
     let alloc = rt.alloc();
-    let table: [(&[&str], u32); 6] = [
+    let table: [(&[&str], u32); 8] = [
         (&[], 0),
         (&["lists"], 0),
         (&["List"], 0),
         (&["--help"], 0),
         (&["list", "list"], 1),
+        (&["mux"], 1),
+        (&["mux", "plan.json", "--"], 2),
         (&["", "list"], 0),
     ];
     for (texts, index) in table {
@@ -220,6 +224,26 @@ fn refuses_wrong_words(rt: HostRuntime) -> Result<(), Fail> {
     Ok(())
 }
 
+const ABSENT: Status = Status::PlanRefused {
+    reason: Reason::PlanAbsent,
+    place: PlanPlace {
+        part: PlanPart::Top,
+        a: 0,
+        b: 0,
+        c: 0,
+        field: 0,
+    },
+};
+
+const LATE: Status = Status::NotAdmitted {
+    refusal: NotAdmitted {
+        rule: Rule::A4,
+        number: 1,
+        found: 65_570_955,
+        allowed: 65_568_868,
+    },
+};
+
 #[test]
 fn tells_each_status(rt: HostRuntime) -> Result<(), Fail> {
     let alloc = rt.alloc();
@@ -230,6 +254,8 @@ fn tells_each_status(rt: HostRuntime) -> Result<(), Fail> {
         (Status::WriteFault, 3, "write fault"),
         (CUT, 4, "broken: cut at 0"),
         (SYNC, 4, "broken: sync at 4"),
+        (ABSENT, 5, "plan: plan-absent at top 0 0 0 field 0"),
+        (LATE, 6, "not admitted: A4 1 65570955 65568868"),
         (Status::OutOfMemory, 7, "out of memory"),
         (Status::TooLong, 8, "too long"),
     ];

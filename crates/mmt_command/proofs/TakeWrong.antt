@@ -18,6 +18,7 @@ take_inside : (words : List (List ℕ)) → IsCommand (codes "take" ∷ words) �
 take_inside words (command.List, is) = absurd (omega (arith, ap (λ x. get_or (get_or x 0 []) 0 0) is))
 take_inside words (command.Peak choice r, is) = absurd (omega (arith, ap (λ x. get_or (get_or x 0 []) 0 0) is.0))
 take_inside words (command.Take o, is) = (o, is)
+take_inside words (command.Mux, is) = absurd (omega (arith, ap (λ x. get_or (get_or x 0 []) 0 0) is.1))
 
 goes_on : (os : List TakeOption) (w : List ℕ) (tail : List (List ℕ)) → All HasOptionRange os → IsCommand (take_words os ++ w ∷ tail) → GoesOn os w tail
 goes_on os w tail x c =

@@ -30,11 +30,16 @@ abbrev pub HasChoiceRange : FlowChoice → Type 0
 HasChoiceRange flow.Any = Unit {0}
 HasChoiceRange (flow.One f) = HasFlowRange f
 
+-- the words of `mux`, with the name of the plan's file
+abbrev pub mux_words : List ℕ → List (List ℕ)
+mux_words name = codes "mux" ∷ name ∷ []
+
 -- the words are this command
 abbrev pub Asks : Command → List (List ℕ) → Type 0
 Asks command.List words = words ≡ codes "list" ∷ []
 Asks (command.Peak choice params) words = (words ≡ peak_words params (flow_words choice)) × HasRanges params × HasChoiceRange choice
 Asks (command.Take options) words = AsksTake options words
+Asks command.Mux words = (name : List ℕ) × (words ≡ mux_words name)
 
 -- the words are some command
 abbrev pub IsCommand : List (List ℕ) → Type 0

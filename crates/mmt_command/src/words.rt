@@ -17,6 +17,8 @@ pub enum Command {
     Peak { flow: FlowChoice, params: Params },
     /// Reads a stream, and writes a record for each unit that a receiver hands out.
     Take(TakeOptions),
+    /// Reads a plan, whose file the second word names, and the plan's files, and writes the stream of its programme.
+    Mux,
 }
 
 // The same of words that begin with `list`.
@@ -29,6 +31,21 @@ fn list_of(words: &[String]) -> Result<Command, u32>
         Ok(Command::List)
     } else {
         Err(1)
+    }
+}
+
+// The same of words that begin with `mux`.
+fn mux_of(words: &[String]) -> Result<Command, u32>
+    requires { texts words.now ≡ codes "mux" ∷ drop 1 (texts words.now) }
+    ensures command { IfOk result (λ command. Asks command (texts words.now)) }
+    ensures wrong { IfErr result (λ index. IsWrongAt IsCommand (texts words.now) index) }
+{
+    if words.len() == 2 {
+        Ok(Command::Mux)
+    } else if words.len() < 2 {
+        Err(1)
+    } else {
+        Err(2)
     }
 }
 
@@ -46,6 +63,9 @@ pub fn command_of(words: &[String]) -> Result<Command, u32>
     }
     if is_at(words, 0, "take") {
         return take_of(words);
+    }
+    if is_at(words, 0, "mux") {
+        return mux_of(words);
     }
     Err(0)
 }

@@ -14,7 +14,6 @@ use Rattle.mmt_cast.specs.SentTables.{extended_of_mpu, pair_of, sent_descriptors
 use Rattle.mmt_fields.proofs.Numbers.{length_big_endian}
 use Rattle.mmt_model.specs.Carrying.{numbers}
 use Rattle.mmt_fields.specs.Reading.{big_endian}
-use Rattle.mmt_model.specs.Right.{no_asset}
 use Rattle.mmt_model.specs.declared.programmes.Asset.{Asset}
 use Rattle.mmt_model.specs.declared.programmes.Mpu.{Mpu}
 use Rattle.mmt_mpt.specs.Descriptor.{descriptor_bytes, descriptors_bytes, length_width}

@@ -1,13 +1,16 @@
 -- The programme of the tests may have a table of all its MPUs.
-use Rattle.std.proofs.Common.{◌≡◌, ℕ, ◌+◌, ◌<◌, ◌≤◌, zero, suc, List, [], ◌∷◌, ◌++◌, map, length, arith, refl, ap, sym, ◌∙◌, inl, inr}
-use Rattle.std.specs.List.{All, AllByRecursion}
+use Rattle.std.proofs.Common.{◌≡◌, ℕ, ◌+◌, ◌≤◌, zero, suc, List, [], ◌∷◌, ◌++◌, map, length, arith, refl, ap, sym, ◌∙◌, inl, inr, subst}
+use Rattle.std.specs.List.{AllByRecursion}
 use Rattle.std.proofs.lemmas.List.Elements.{All-from_recursion}
 use Rattle.mmt_cast.proofs.Listing.{each-map_numbers}
+use Rattle.mmt_cast.specs.PlanOne.{plan_one}
 use Rattle.mmt_cast.specs.Placing.{map_from, mpus_of}
 use Rattle.mmt_cast.specs.Tables.{asset_length, descriptors_length, extended_length, is_named_by, named_of_asset, table_length}
 use Rattle.mmt_model.specs.Carrying.{numbers}
 use Rattle.mmt_model.specs.Right.{AreRising, IsBefore, IsKnown}
+use Rattle.mmt_model.specs.declared.programmes.Asset.{Asset}
 use Rattle.mmt_model.specs.declared.programmes.Mpu.{Mpu}
+use Rattle.mmt_model.specs.declared.programmes.Programme.{Programme}
 use Rattle.mmt_signals.specs.Named.{FitsIn, FitsTables, MayBeNamed}
 use Rattle.mmt_signals.specs.Sample.{item_name, plain_mpu, sample, sample_assets, sample_names, short_mpu}
 
@@ -59,3 +62,12 @@ sample_named =
       );
       short = omega (arith, long);
     }
+
+-- the worked plan with these assets
+pub fits_with : (programme : Programme) (assets : List Asset) → programme ≡ plan_one → assets ≡ sample_assets → FitsTables (record programme { assets = assets })
+fits_with programme assets is these = subst (λ p. FitsTables (record p { assets = assets })) (sym is) (subst (λ a. FitsTables (record plan_one { assets = a })) (sym these) sample_fits)
+
+pub names_with : (programme : Programme) (assets : List Asset) (names : List (ℕ × ℕ)) → programme ≡ plan_one → assets ≡ sample_assets → names ≡ sample_names → MayBeNamed (record programme { assets = assets }) names
+names_with programme assets names is these named =
+    subst (λ p. MayBeNamed (record p { assets = assets }) names) (sym is)
+    (subst (λ a. MayBeNamed (record plan_one { assets = a }) names) (sym these) (subst (λ n. MayBeNamed (record plan_one { assets = sample_assets }) n) (sym named) sample_named))

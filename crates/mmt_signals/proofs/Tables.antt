@@ -2,7 +2,7 @@
 use Rattle.mmt_cast.specs.PlanOne.{plan_one}
 use Rattle.std.proofs.Common.{◌≡◌, ℕ, zero, suc, ◌+◌, ◌-◌, ◌*◌, ◌%◌, ◌^◌, ◌<◌, ◌≤◌, Bool, true, false, List, [], ◌∷◌, ◌++◌, length, get_or, arith, refl, ap, sym, ◌∙◌, None}
 use Rattle.std.specs.Int.{w8, w16, w32}
-use Rattle.std.specs.List.{All, AllByRecursion, flat_map, sum_by}
+use Rattle.std.specs.List.{flat_map, sum_by}
 use Rattle.std.proofs.lemmas.List.{get_or_default, length-append}
 use Rattle.mmt_base.specs.declared.ticks.LongTick.{LongTick}
 use Rattle.mmt_sent.specs.Messages.{message_bytes, message_of_signal, tables_before}
@@ -17,7 +17,7 @@ use Rattle.mmt_cast.specs.SentTables.{sent_asset, sent_table}
 use Rattle.mmt_cast.specs.Tables.{asset_length, table_length}
 use Rattle.mmt_fields.proofs.Numbers.{length_big_endian}
 use Rattle.mmt_fields.specs.Reading.{big_endian}
-use Rattle.mmt_model.specs.Right.{AreRising, FitsAus, IsKnown, IsRight, IsRightAsset, IsRightMpu, IsRightSignal}
+use Rattle.mmt_model.specs.Right.{FitsAus, IsKnown, IsRight, IsRightAsset, IsRightMpu, IsRightSignal}
 use Rattle.mmt_model.specs.declared.programmes.Asset.{Asset}
 use Rattle.mmt_model.specs.declared.programmes.Mpu.{Mpu}
 use Rattle.mmt_model.specs.declared.programmes.Programme.{Programme}

@@ -1,9 +1,9 @@
 -- The MPUs that a table names, asset by asset.
-use Rattle.std.specs.Prelude.{ℕ, ◌==◌, ◌<◌, ◌≤◌, Bool, List, [], ◌∷◌, length, map, get_or}
+use Rattle.std.specs.Prelude.{ℕ, ◌==◌, ◌<◌, ◌≤◌, Bool, List, [], ◌∷◌, length, map, get_or, ◌++◌}
 use Rattle.std.specs.List.{All, AllByRecursion, filter}
 use Rattle.mmt_cast.specs.Placing.{PlacedMpu}
 use Rattle.mmt_cast.specs.Right.{no_mpu}
-use Rattle.mmt_cast.specs.SentTables.{sent_descriptors, stamps_of_21}
+use Rattle.mmt_cast.specs.SentTables.{pair_of, sent_descriptors, stamps_of_21}
 use Rattle.mmt_model.specs.Carrying.{numbers}
 use Rattle.std.specs.Int.{div_ceil}
 use Rattle.mmt_mpt.specs.Descriptor.{DescriptorValue}
@@ -11,8 +11,12 @@ use Rattle.mmt_cast.specs.Tables.{table_length}
 use Rattle.mmt_model.specs.Right.{AreRising, IsKnown}
 use Rattle.mmt_model.specs.declared.programmes.Asset.{Asset}
 use Rattle.mmt_model.specs.declared.programmes.Programme.{Programme}
-use Rattle.mmt_mpt.specs.Asset.{AssetValue}
-use Rattle.mmt_mpt.specs.Location.{IsHere}
+use Rattle.mmt_model.specs.declared.programmes.Mpu.{Mpu}
+use Rattle.mmt_mpt.specs.Asset.{AssetValue, head_bytes}
+use Rattle.mmt_mpt.specs.Location.{IsHere, location_bytes}
+use Rattle.mmt_times.specs.Extended.{extended_bytes, extended_tag}
+use Rattle.mmt_times.specs.Stamps.{stamps_bytes, stamps_tag}
+use Rattle.mmt_times.specs.Writing.{written_extended}
 
 -- a name is that of an MPU of the asset at a place
 abbrev pub is_of : ℕ → ℕ × ℕ → Bool
@@ -37,6 +41,18 @@ HasAll asset names = All (λ name. name.1 < length asset.mpus) names
 -- the timestamp descriptors of these MPUs, each of at most 21 (this project's rule for what is sent)
 abbrev pub all_stamps : List PlacedMpu → List DescriptorValue
 all_stamps mpus = map (stamps_of_21 mpus) (numbers 0 (div_ceil (length mpus) 21))
+
+-- the timestamp descriptor of the MPUs that these names stand for (ARIB STD-B60, MPU timestamp descriptor)
+abbrev pub stamps_for : Asset → List (ℕ × ℕ) → DescriptorValue
+stamps_for asset names = record { tag = stamps_tag; bytes = stamps_bytes (map pair_of (named asset names)) }
+
+-- the extended descriptor of an MPU, with this timescale (this project's extended timestamp descriptor)
+abbrev pub extended_for : ℕ → Mpu → DescriptorValue
+extended_for timescale mpu = record { tag = extended_tag; bytes = extended_bytes (written_extended timescale mpu) }
+
+-- what stands before the descriptors of an asset: how it is identified, its id, its type, reserved bits 1, no clock relation, and one location with its packet id in the same flow (ARIB STD-B60, MMT Package Table)
+abbrev pub start_bytes : Asset → List ℕ
+start_bytes asset = head_bytes (record { identifier_type = 0; scheme = 0; id = asset.id; kind = asset.kind; reserved = 127; count = 1 }) ++ location_bytes (IsHere asset.packet_id)
 
 -- an asset's lengths fit their fields in a table: its id has at most 255 bytes, and each of its MPUs at most 60 access units (ARIB STD-B60, MMT Package Table; this project's rule for a plan)
 pub record FitsIn (asset : Asset) : Type 0 where

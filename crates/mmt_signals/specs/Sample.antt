@@ -1,5 +1,5 @@
 -- A programme for the tests: an asset of two MPUs with access units, and one of 22 MPUs without.
-use Rattle.std.specs.Prelude.{ℕ, ◌*◌, List, [], ◌∷◌, true, false, map}
+use Rattle.std.specs.Prelude.{ℕ, List, [], ◌∷◌, true, false, map}
 use Rattle.mmt_cast.specs.PlanOne.{plan_one}
 use Rattle.mmt_model.specs.Carrying.{numbers}
 use Rattle.mmt_model.specs.declared.programmes.Asset.{Asset}

@@ -8,7 +8,7 @@ ghost use Rattle.mmt_cast.specs.Tables.{asset_length, descriptors_length};
 ghost use Rattle.mmt_model.specs.Right.{AreRising, IsKnown};
 ghost use Rattle.mmt_mpt.specs.Asset.{asset_bytes, head_bytes};
 ghost use Rattle.mmt_mpt.specs.Location.{IsHere, location_bytes};
-ghost use Rattle.mmt_signals.specs.Named.{FitsIn, HasAll, is_of, listed_asset, named};
+ghost use Rattle.mmt_signals.specs.Named.{FitsIn, HasAll, is_of, listed_asset, named, start_bytes};
 
 use crate::named::{descriptors_size, put_all_extended, put_all_stamps};
 use mmt_fields::{put_bytes, put_u8, put_u16, put_u32};
@@ -35,7 +35,7 @@ fn run_length(names: &[(u32, u32)], asset: u32) -> usize
 fn put_head(out: &mut Vec<u8>, asset: &Asset)
     requires id { length asset.now.id ≤ 255 }
     requires room { vec_len out.old + 15 + length asset.now.id ≤ vec_capacity out.old }
-    ensures items { out.new.items ≡ out.old.items ++ (head_bytes (record { identifier_type = 0; scheme = 0; id = asset.now.id; kind = asset.now.kind; reserved = 127; count = 1 }) ++ location_bytes (IsHere asset.now.packet_id)) }
+    ensures items { out.new.items ≡ out.old.items ++ start_bytes asset.now }
     ensures len { vec_len out.new ≡ vec_len out.old + 15 + length asset.now.id }
     ensures capacity { vec_capacity out.old ≤ vec_capacity out.new }
 {
@@ -94,7 +94,8 @@ pub(crate) fn put_assets(out: &mut Vec<u8>, assets: &[Asset], names: &[(u32, u32
     requires known { AllByRecursion (IsKnown assets.now) names.now }
     requires rising { AreRising names.now }
     requires short { sum_by (λ n. n) (map_from (asset_length names.now) 0 assets.now) ≤ 65535 }
-    requires room { vec_len out.old + length (flat_map asset_bytes (map_from (sent_asset names.now) 0 assets.now)) ≤ vec_capacity out.old }
+    requires room { vec_len out.old + length (flat_map asset_bytes (map_from (sent_asset names.now) 0 assets.now))
+        ≤ vec_capacity out.old }
     ensures { out.new.items ≡ out.old.items ++ flat_map asset_bytes (map_from (sent_asset names.now) 0 assets.now) }
 {
     let mut rest = names;

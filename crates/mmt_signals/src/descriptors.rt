@@ -5,7 +5,7 @@ ghost use Rattle.std.specs.List.{flat_map};
 ghost use Rattle.mmt_cast.specs.Right.{no_mpu};
 ghost use Rattle.mmt_cast.specs.SentTables.{pair_of};
 ghost use Rattle.mmt_mpt.specs.Descriptor.{descriptor_bytes};
-ghost use Rattle.mmt_signals.specs.Named.{HasAll, FitsIn, named, named_mpu as mpu_of};
+ghost use Rattle.mmt_signals.specs.Named.{FitsIn, HasAll, extended_for, named, named_mpu as mpu_of, stamps_for};
 ghost use Rattle.mmt_times.specs.Extended.{au_bytes, mpu_bytes, extended_bytes, extended_tag};
 ghost use Rattle.mmt_times.specs.Stamps.{pair_bytes, stamps_bytes, stamps_tag};
 ghost use Rattle.mmt_times.specs.Writing.{au_value, written_mpu, written_extended};
@@ -59,7 +59,7 @@ pub(crate) fn put_stamps(out: &mut Vec<u8>, asset: &Asset, names: &[(u32, u32)])
     requires few { length names.now ≤ 21 }
     requires known { HasAll asset.now names.now }
     requires room { vec_len out.old + 3 + 12 * length names.now ≤ vec_capacity out.old }
-    ensures items { out.new.items ≡ out.old.items ++ descriptor_bytes (record { tag = stamps_tag; bytes = stamps_bytes (map pair_of (named asset.now names.now)) }) }
+    ensures items { out.new.items ≡ out.old.items ++ descriptor_bytes (stamps_for asset.now names.now) }
     ensures len { vec_len out.new ≡ vec_len out.old + 3 + 12 * length names.now }
     ensures capacity { vec_capacity out.old ≤ vec_capacity out.new }
 {
@@ -113,7 +113,7 @@ fn put_entry(out: &mut Vec<u8>, mpu: &Mpu)
 pub(crate) fn put_extended(out: &mut Vec<u8>, timescale: u32, mpu: &Mpu)
     requires few { length mpu.now.aus ≤ 60 }
     requires room { vec_len out.old + 16 + 4 * length mpu.now.aus ≤ vec_capacity out.old }
-    ensures items { out.new.items ≡ out.old.items ++ descriptor_bytes (record { tag = extended_tag; bytes = extended_bytes (written_extended timescale mpu.now) }) }
+    ensures items { out.new.items ≡ out.old.items ++ descriptor_bytes (extended_for timescale mpu.now) }
     ensures len { vec_len out.new ≡ vec_len out.old + 16 + 4 * length mpu.now.aus }
     ensures capacity { vec_capacity out.old ≤ vec_capacity out.new }
 {

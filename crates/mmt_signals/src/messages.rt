@@ -37,7 +37,13 @@ fn table_size(programme: &Programme, names: &[(u32, u32)]) -> usize
 
 /// Appends a table of so many bytes, with these names, where there is room for it.
 #[tactic(auto, using(std::proofs::Common::append_assoc, crate::proofs::Tables::table_are, crate::proofs::Tables::table_parts, crate::proofs::Tables::table_room))]
-fn put_table(out: &mut Vec<u8>, programme: &Programme, version: u8, names: &[(u32, u32)], size: usize)
+fn put_table(
+    out: &mut Vec<u8>,
+    programme: &Programme,
+    version: u8,
+    names: &[(u32, u32)],
+    size: usize,
+)
     requires fits { FitsTables programme.now }
     requires names { MayBeNamed programme.now names.now }
     requires size { size ≡ table_length programme.now names.now }
@@ -57,10 +63,16 @@ fn put_table(out: &mut Vec<u8>, programme: &Programme, version: u8, names: &[(u3
 
 /// Appends a PA message of version 0 with one table. Want of memory leaves `out` as it was.
 #[tactic(auto, using(std::proofs::Common::append_assoc, crate::proofs::Tables::message_are, crate::proofs::Tables::table_parts))]
-pub(crate) fn put_pa(out: &mut Vec<u8>, programme: &Programme, version: u8, names: &[(u32, u32)]) -> Result<(), OutOfMemory>
+pub(crate) fn put_pa(
+    out: &mut Vec<u8>,
+    programme: &Programme,
+    version: u8,
+    names: &[(u32, u32)],
+) -> Result<(), OutOfMemory>
     requires fits { FitsTables programme.now }
     requires names { MayBeNamed programme.now names.now }
-    ensures ok { OnOk result (out.new.items ≡ out.old.items ++ message_spelling (PaMessage (record { version = 0; tables = listed_table (mpt_spelling (sent_table programme.now version names.now)) ∷ [] }))) }
+    ensures ok { OnOk result (out.new.items ≡ out.old.items ++ message_spelling (PaMessage
+        (record { version = 0; tables = listed_table (mpt_spelling (sent_table programme.now version names.now)) ∷ [] }))) }
     ensures err { OnErr result (out.new.items ≡ out.old.items) }
 {
     let size = table_size(programme, names);
@@ -69,7 +81,10 @@ pub(crate) fn put_pa(out: &mut Vec<u8>, programme: &Programme, version: u8, name
     put_u8(out, 0);
     put_u32(out, 5 + size as u32);
     put_u8(out, 1);
-    put_u32(out, (MPT_ID as u32) * (1 << 24) + (version as u32) * (1 << 16) + size as u32);
+    put_u32(
+        out,
+        (MPT_ID as u32) * (1 << 24) + (version as u32) * (1 << 16) + size as u32,
+    );
     put_table(out, programme, version, names, size);
     Ok(())
 }
@@ -77,7 +92,8 @@ pub(crate) fn put_pa(out: &mut Vec<u8>, programme: &Programme, version: u8, name
 /// Appends a buffer message of version 0. Want of memory leaves `out` as it was.
 #[tactic(auto, using(std::proofs::Common::append_assoc), unfolding(mmt_sig::specs::Message::message_spelling, mmt_sig::specs::Message::hrbm_bytes))]
 fn put_hrbm(out: &mut Vec<u8>, params: &Params) -> Result<(), OutOfMemory>
-    ensures ok { OnOk result (out.new.items ≡ out.old.items ++ message_spelling (HrbmMessage (record { version = 0; params = params.now }))) }
+    ensures ok { OnOk result (out.new.items ≡ out.old.items
+        ++ message_spelling (HrbmMessage (record { version = 0; params = params.now }))) }
     ensures err { OnErr result (out.new.items ≡ out.old.items) }
 {
     out.reserve(17)?;
@@ -99,7 +115,12 @@ fn put_hrbm(out: &mut Vec<u8>, params: &Params) -> Result<(), OutOfMemory>
 /// # Errors
 ///
 /// `OutOfMemory`, which leaves `out` as it was.
-pub fn put_message(out: &mut Vec<u8>, programme: &Programme, at: usize, earlier: u32) -> Result<(), OutOfMemory>
+pub fn put_message(
+    out: &mut Vec<u8>,
+    programme: &Programme,
+    at: usize,
+    earlier: u32,
+) -> Result<(), OutOfMemory>
     requires right { IsRight programme.now }
     requires cast { refusal programme.now ≡ None }
     requires at { at < length programme.now.signals }

@@ -58,9 +58,11 @@ fn put_extended_of(out: &mut Vec<u8>, asset: &Asset, name: (u32, u32))
 pub(crate) fn put_all_extended(out: &mut Vec<u8>, asset: &Asset, names: &[(u32, u32)])
     requires known { HasAll asset.now names.now }
     requires fits { FitsIn asset.now }
-    requires room { vec_len out.old + length (flat_map descriptor_bytes (flat_map extended_of_mpu (named asset.now names.now))) ≤ vec_capacity out.old }
+    requires room { vec_len out.old + length (flat_map descriptor_bytes (flat_map extended_of_mpu (named asset.now names.now)))
+        ≤ vec_capacity out.old }
     ensures items { out.new.items ≡ out.old.items ++ flat_map descriptor_bytes (flat_map extended_of_mpu (named asset.now names.now)) }
-    ensures len { vec_len out.new ≡ vec_len out.old + length (flat_map descriptor_bytes (flat_map extended_of_mpu (named asset.now names.now))) }
+    ensures len { vec_len out.new ≡ vec_len out.old
+        + length (flat_map descriptor_bytes (flat_map extended_of_mpu (named asset.now names.now))) }
     ensures capacity { vec_capacity out.old ≤ vec_capacity out.new }
 {
     for name in names {

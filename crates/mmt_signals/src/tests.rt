@@ -24,7 +24,8 @@ const TABLE: [u8; 80] = [
     0x20, 0, 0, 0x40, 0xFC, 2, 0x70, 0x31, 0, 0, 1, // the table
     0, 0, 0, 0, 0, 1, 0x76, 0x68, 0x65, 0x76, 0x31, 0xFE, 1, 0, 1, 0, // the asset
     0, 0x27, 0, 1, 12, 0, 0, 0, 7, 0, 0, 3, 0xE8, 0x80, 0, 0, 0, // its MPU's time
-    0x80, 0x26, 21, 0xFD, 0, 0, 0xEA, 0x60, 0, 0, 0, 7, 0x3F, 3, 0xE9, 2, 3, 0xE9, 3, 0xE9, 7, 0xD2, 0, 0,
+    0x80, 0x26, 21, 0xFD, 0, 0, 0xEA, 0x60, 0, 0, 0, 7, 0x3F, 3, 0xE9, 2, 3, 0xE9, 3, 0xE9, 7,
+    0xD2, 0, 0,
 ];
 
 // The message with a table of version 255 of two assets: the first with two MPUs and the offsets of their access
@@ -194,10 +195,7 @@ fn short(alloc: Global, number: u32) -> Result<Mpu, OutOfMemory>
     ensures { IfOk result (λ mpu. mpu ≡ short_mpu number) }
 {
     let mut aus = List::new(alloc);
-    aus.push(Au {
-        dts_pts: 3,
-        pts: 4,
-    })?;
+    aus.push(Au { dts_pts: 3, pts: 4 })?;
     Ok(Mpu {
         number,
         time: Ntp(number as u64),
@@ -208,6 +206,7 @@ fn short(alloc: Global, number: u32) -> Result<Mpu, OutOfMemory>
 }
 
 /// 22 MPUs without access units.
+#[tactic(auto, using(crate::proofs::Sample::more_items), unfolding(mmt_model::specs::Carrying::numbers))]
 fn items(alloc: Global) -> Result<List<Mpu>, OutOfMemory>
     ensures { IfOk result (λ mpus. mpus ≡ map plain_mpu (numbers 0 22)) }
 {
@@ -225,6 +224,7 @@ fn items(alloc: Global) -> Result<List<Mpu>, OutOfMemory>
 }
 
 /// The names of all MPUs.
+#[tactic(auto, using(crate::proofs::Sample::more_names), unfolding(mmt_model::specs::Carrying::numbers))]
 fn names(alloc: Global) -> Result<List<(u32, u32)>, OutOfMemory>
     ensures { IfOk result (λ names. names ≡ sample_names) }
 {

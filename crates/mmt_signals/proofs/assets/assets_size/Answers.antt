@@ -1,5 +1,5 @@
-use Rattle.std.proofs.Common.{◌≡◌, arith}
-use Rattle.mmt_signals.proofs.Stepping.{IsStep, no_size_left, step}
+use Rattle.std.proofs.Common.{arith}
+use Rattle.mmt_signals.proofs.Stepping.{no_size_left, step}
 use Rattle.mmt_signals.proofs.assets.assets_size.Goals as goal
 
 pub descriptors_size-requires-clause-known : goal.descriptors_size-requires-clause-known

@@ -1,10 +1,10 @@
-use Rattle.std.proofs.Common.{◌≡◌, ◌+◌, ◌++◌, ap, sym, ◌∙◌, arith, append_assoc, length, drop}
+use Rattle.std.proofs.Common.{◌+◌, ◌++◌, ap, sym, ◌∙◌, arith, append_assoc, length, drop}
 use Rattle.std.proofs.lemmas.List.{append-nil, length-append}
 use Rattle.std.specs.List.{flat_map}
 use Rattle.mmt_cast.specs.Placing.{map_from}
 use Rattle.mmt_cast.specs.SentTables.{sent_asset}
 use Rattle.mmt_mpt.specs.Asset.{asset_bytes}
-use Rattle.mmt_signals.proofs.Stepping.{IsStep, none_left, step}
+use Rattle.mmt_signals.proofs.Stepping.{none_left, step}
 use Rattle.mmt_signals.specs.Named.{listed_asset, named}
 use Rattle.mmt_signals.proofs.assets.put_assets.Goals as goal
 

@@ -1,4 +1,4 @@
-use Rattle.std.proofs.Common.{◌≡◌, ◌+◌, drop, length, ◌≤◌}
+use Rattle.std.proofs.Common.{◌≡◌, ◌+◌, drop}
 use Rattle.std.specs.List.{prefix_len}
 use Rattle.mmt_signals.specs.Named.{is_of}
 use Rattle.mmt_signals.proofs.assets.run_length.Given as goal

@@ -1,6 +1,5 @@
-use Rattle.std.proofs.Common.{◌≡◌, ◌∙◌, ◌++◌, ap, sym, subst, rules}
-use Rattle.std.specs.Prelude.{OnOk}
-use Rattle.mmt_signals.proofs.Tables.{MayFor, names_may, params_message, signal_here, table_message, tables_fit}
+use Rattle.std.proofs.Common.{◌∙◌, sym, subst}
+use Rattle.mmt_signals.proofs.Tables.{MayFor, names_may, params_message, signal_here, table_message}
 use Rattle.mmt_signals.specs.Named.{MayBeNamed}
 use Rattle.mmt_signals.proofs.messages.put_message.Goals as goal
 

@@ -1,6 +1,5 @@
-use Rattle.std.proofs.Common.{◌≡◌, ◌+◌, ◌-◌, ◌*◌, ◌<◌, ◌++◌, [], ap, sym, ◌∙◌, length, take, drop, map, arith}
-use Rattle.std.proofs.Common.{append_assoc, vec_len}
-use Rattle.std.specs.Prelude.{List, ℕ}
+use Rattle.std.proofs.Common.{◌+◌, ◌-◌, ◌*◌, ◌++◌, ap, sym, ◌∙◌, length, take, drop, map, arith}
+use Rattle.std.proofs.Common.{append_assoc}
 use Rattle.std.proofs.lemmas.List.{append-nil, length-append}
 use Rattle.mmt_cast.specs.SentTables.{pair_of}
 use Rattle.mmt_mpt.specs.Descriptor.{descriptor_bytes}

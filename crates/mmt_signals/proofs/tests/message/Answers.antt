@@ -1,4 +1,4 @@
-use Rattle.std.proofs.Common.{◌≡◌, ◌<◌, sym, ap, subst, arith, length, None, ◌∙◌}
+use Rattle.std.proofs.Common.{sym, ap, subst, arith, ◌∙◌}
 use Rattle.mmt_cast.proofs.Examples.{examples}
 use Rattle.mmt_cast.specs.Refusing.{refusal}
 use Rattle.mmt_model.specs.Right.{IsRight}
