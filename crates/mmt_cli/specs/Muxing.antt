@@ -7,7 +7,7 @@ use Rattle.mmt_cli.specs.Moments.{Moment}
 use Rattle.mmt_cli.specs.Statuses.{status_of_run}
 use Rattle.mmt_cli.specs.declared.status.Status.{Status}
 
--- `mux` writes the stream of the plan of a name, whose files are on the shelf, where it is done, and a front of it, or nothing, where it is not. It is refused exactly where the plan, its files or its cast are, and it reads and notes nothing (this project's rule).
+-- `mux` writes the stream of the plan of a name, whose files are on the shelf, where it is done, and a prefix of it, or nothing, where it is not. It is refused if and only if the plan, its files or its cast are, and it reads and notes nothing (this project's rule).
 pub record Muxes (file : List ℕ → Option (List ℕ)) (name : List ℕ) (outcome : Status) (old new : Moment) : Type 0 where
   pub end : Result (Unit {0}) MuxEnd
   pub told : outcome ≡ status_of_run end

@@ -50,7 +50,7 @@ pub record Passes (bytes : List ℕ) (old new : List Event) : Type 0 where
   pub unread : bytes_read events ≡ []
   pub quiet : bytes_noted events ≡ []
 
--- all of the bytes were written where the run was done, and else a front of them
+-- all of the bytes were written where the run was done, and otherwise a prefix of them
 abbrev pub Muxes : List ℕ → Result (Unit {0}) MuxEnd → List Event → List Event → Type 0
 Muxes bytes (Ok x) old new = Passes bytes old new
 Muxes bytes (Err end) old new = (front : List ℕ) × (rest : List ℕ) × (bytes ≡ front ++ rest) × Passes front old new

@@ -44,7 +44,7 @@ fn read<H: Shelf>(alloc: Global, name: &str, shelf: &mut H) -> Result<(Programme
 /// # Errors
 ///
 /// `Refused` and `NotAdmitted` with the first reason; then nothing was written. `ReadFault` only where the shelf's count
-/// of faults rose, and `WriteFault` only where the port's count of writes that failed did; then a front of the stream was
+/// of faults rose, and `WriteFault` only where the port's count of writes that failed did; then a prefix of the stream was
 /// written.
 pub fn mux<H: Shelf, P: Port>(
     alloc: Global,

@@ -103,7 +103,7 @@ impl Sender {
 /// # Errors
 ///
 /// `UnitShort` where the file of a unit is absent or ends before the unit does, `ReadFault` where a read of a file
-/// failed, `WriteFault` where a write failed, and `OutOfMemory`. What was written is a front of the stream.
+/// failed, `WriteFault` where a write failed, and `OutOfMemory`. What was written is a prefix of the stream.
 pub fn send<H: Shelf, P: Port>(
     alloc: Global,
     programme: &Programme,
@@ -114,7 +114,7 @@ pub fn send<H: Shelf, P: Port>(
     requires right { IsRight programme.now }
     requires none { refusal programme.now ≡ None }
     requires cast { cast.now ≡ cast_of programme.now }
-    // The stream was written, or a front of it, and nothing was noted or read; where shelf and port tell what they have.
+    // The stream was written, or a prefix of it, and nothing was noted or read; where shelf and port tell what they have.
     ensures done { IsTrue (H.tells shelf.old) → IsTrue (P.tells port.old) → OnOk result (P.history port.new ≡ P.history port.old ++ pieces (stream programme.now (files_on (H.file shelf.old) programme.now))) }
     ensures begun { IsTrue (H.tells shelf.old) → IsTrue (P.tells port.old) → OnErr result (HasBegun (P.history port.old) (P.history port.new) (stream programme.now (files_on (H.file shelf.old) programme.now))) }
     // Where it was written, no file ends before a unit of it does.
