@@ -1,5 +1,5 @@
 -- What `take` gives back of a near delivery.
-use Rattle.std.proofs.Common.{◌≡◌, ℕ, List, ◌++◌, refl, ap, subst}
+use Rattle.std.proofs.Common.{◌≡◌, ℕ, List, ◌++◌, refl, ap}
 use Rattle.mmt_model.specs.Delivery.{newest_first}
 use Rattle.mmt_model.specs.Handing.{Presentation}
 use Rattle.mmt_model.specs.declared.programmes.Programme.{Programme}
@@ -10,7 +10,7 @@ use Rattle.mmt_stream.specs.Output.{Output, output_of}
 use Rattle.mmt_stream.specs.Streaming.{Streams}
 use Rattle.mmt_stream.specs.declared.end.StreamEnd.{StreamEnd}
 use Rattle.mmt_stream.specs.declared.end.StreamEnd.TheVariants as end
-use Rattle.mmt_take.specs.Taking.{line_of, placed, taking}
+use Rattle.mmt_take.specs.Taking.{line_of, taking}
 use Rattle.mmt_tlv.specs.Framing.{joined}
 use Rattle.mmt_tune.specs.declared.config.Config.{Config}
 use Rattle.mmt_headline.proofs.Framed.{streams-framed}
