@@ -138,13 +138,8 @@ pub packets-done : (programme : Programme) (s : ℕ) (packets : List Sent) → l
 unfolding signalling
 packets-done programme s packets ge e = e ∙ ap (λ xs. numbered_after [] (flat programme (map_from (sending_of_signal programme) 0 xs))) (take_all s programme.signals ge)
 
--- ---- what a message has
+-- ---- the packets of a message
 
-pub message-tick : (programme : Programme) → IsRight programme → (s : ℕ) (x : Signal) → s < length programme.signals → x ≡ get_or programme.signals s no_signal → tick_of_signal x ≤ 2 ^ 48
-unfolding signal_at
-message-tick programme right s x l is = omega (arith, (ticks-fit programme right).signals s l, ap tick_of_signal is)
-
--- the packets of a message
 pub parameters-all : (programme : Programme) (s number : ℕ) (p : Sent) (start items : List Sent) (x : Signal) (at : LongTick) → x ≡ signals.Parameters at → p ≡ numbered_packet programme (Sending.Parameters s at.0) number 0
     → items ≡ start ++ p ∷ [] → items ≡ start ++ numbered_packets programme (sending_of_signal programme s x) number
 unfolding packet_count sending_of_signal

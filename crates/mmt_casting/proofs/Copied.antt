@@ -74,14 +74,3 @@ copies-none programme = refl
 pub copies-done : (programme : Programme) (s : ℕ) (copies : List TableCopy) → length programme.signals ≤ s → copies ≡ flat_map_from (copy_as_sent programme) 0 (take s programme.signals) → copies ≡ copies_as_sent programme
 unfolding copies_as_sent
 copies-done programme s copies ge e = e ∙ ap (flat_map_from (copy_as_sent programme) 0) (take_all s programme.signals ge)
-
--- ---- what a message has
-
-default : {X : Type 0} (xs : List X) (i : ℕ) (d e : X) → i < length xs → get_or xs i d ≡ get_or xs i e
-default [] i d e l = absurd (omega arith)
-default (x ∷ xs) zero d e l = refl
-default (x ∷ xs) (suc i) d e l = default xs i d e (omega arith)
-
-pub names-known : (programme : Programme) → IsRight programme → (s : ℕ) (x d : Signal) → s < length programme.signals → x ≡ get_or programme.signals s d → NamesKnown programme x
-unfolding signal_at
-names-known programme right s x d l is = subst (NamesKnown programme) (sym (is ∙ default programme.signals s d no_signal l)) ((cast-right programme right).known s l)
