@@ -1,14 +1,11 @@
 -- The table copies, message by message.
-use Rattle.std.proofs.Common.{◌≡◌, ℕ, ◌+◌, ◌-◌, ◌*◌, ◌<◌, ◌≤◌, suc, zero, List, [], ◌∷◌, ◌++◌, map, length, get_or, take, drop, arith, refl, ap, ap₂, sym, ◌∙◌, subst, None}
+use Rattle.std.proofs.Common.{◌≡◌, ℕ, ◌+◌, ◌-◌, ◌*◌, ◌<◌, ◌≤◌, List, [], ◌∷◌, ◌++◌, map, length, get_or, take, arith, refl, ap, ap₂, sym, ◌∙◌}
 use Rattle.std.proofs.lemmas.Bool.{eq-eqb}
 use Rattle.std.proofs.lemmas.List.{take_all}
 use Rattle.mmt_base.specs.declared.ticks.LongTick.{LongTick}
-use Rattle.mmt_cast.proofs.FromRight.{cast-right}
-use Rattle.mmt_cast.proofs.Numbering.{before}
 use Rattle.mmt_cast.proofs.Running.{span_by, table-span-is}
-use Rattle.mmt_cast.specs.Casting.{Span, copies_as_sent, copy_as_sent, place_of_mpu, span_of_table}
+use Rattle.mmt_cast.specs.Casting.{Span, copies_as_sent, copy_as_sent, place_of_mpu}
 use Rattle.mmt_cast.specs.Placing.{all_mpus, flat_map_from}
-use Rattle.mmt_cast.specs.Right.{NamesKnown, no_signal, signal_at}
 use Rattle.mmt_cast.specs.Sending.{Sending, packet_count, sending_of_signal, tick_of_packet}
 use Rattle.mmt_cast.specs.Tables.{table_message_length}
 use Rattle.mmt_casting.proofs.Announced.{before-message, flat-from-more, message-split, messages_before, number_before, rest_after}

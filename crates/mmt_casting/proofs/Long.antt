@@ -1,20 +1,18 @@
 -- How long tables are, by walking over names, MPUs and assets.
-use Rattle.std.proofs.Common.{◌≡◌, ℕ, ◌+◌, ◌*◌, ◌<◌, ◌≤◌, true, false, nat_le, cond, option_map, subst, List, [], ◌∷◌, length, get_or, drop, arith, refl, ap, sym, ◌∙◌, Some, None}
+use Rattle.std.proofs.Common.{◌≡◌, ℕ, ◌+◌, ◌*◌, ◌<◌, ◌≤◌, nat_le, cond, option_map, List, length, get_or, drop, arith, ap, sym, ◌∙◌, Some, None}
 use Rattle.std.proofs.lemmas.List.{at_drop_more, drop_all}
 use Rattle.std.proofs.lemmas.List.Sums.{sum_by-cons}
 use Rattle.std.proofs.lemmas.Bool.{le-leb, lt-leb}
-use Rattle.std.specs.List.{AllByRecursion, filter, list_any, sum_by}
-use Rattle.mmt_cast.specs.Placing.{PlacedMpu, map_from, mpus_of}
+use Rattle.std.specs.List.{sum_by}
+use Rattle.mmt_cast.specs.Placing.{map_from}
 use Rattle.mmt_cast.specs.Refusing.{Refusal, first_of, refusal_of_signal, refusal_of_signals}
-use Rattle.mmt_cast.specs.Tables.{asset_length, descriptors_length, table_length, extended_length, is_named_by, is_same_pair, named_of_asset}
-use Rattle.mmt_casting.proofs.FirstOut.{all-at, placed_in}
-use Rattle.mmt_casting.specs.Ends.{FewAus, end_of, extended_of_mpu}
+use Rattle.mmt_cast.specs.Tables.{asset_length, descriptors_length, table_length, extended_length, named_of_asset}
+use Rattle.mmt_casting.specs.Ends.{end_of}
 use Rattle.mmt_base.specs.declared.ticks.LongTick.{LongTick}
 use Rattle.std.specs.Int.{div_ceil}
 use Rattle.mmt_casting.specs.declared.ends.CastEnd.TheVariants as ends
 use Rattle.mmt_model.specs.declared.programmes.Signal.TheVariants as signals
 use Rattle.mmt_model.specs.declared.programmes.Asset.{Asset}
-use Rattle.mmt_model.specs.declared.programmes.Mpu.{Mpu}
 use Rattle.mmt_model.specs.declared.programmes.Programme.{Programme}
 use Rattle.mmt_model.specs.declared.programmes.Signal.{Signal}
 

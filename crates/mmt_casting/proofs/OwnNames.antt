@@ -1,7 +1,7 @@
 -- The names of an asset's MPUs in a table: they stand side by side, and are as many as the MPUs that are named.
-use Rattle.std.proofs.Common.{◌≡◌, ℕ, ◌+◌, ◌-◌, ◌*◌, ◌<◌, ◌≤◌, ◌^◌, suc, zero, Bool, true, false, ◌==◌, ◌&&◌, ◌||◌, cond, inl, inr, ◌⊎◌, ⊎_elim, List, [], ◌∷◌, ◌++◌, map, length, get_or, take, drop, arith, refl, ap, ap₂, sym, ◌∙◌, subst}
+use Rattle.std.proofs.Common.{◌≡◌, ℕ, ◌+◌, ◌-◌, ◌*◌, ◌<◌, ◌≤◌, ◌^◌, suc, zero, Bool, true, false, ◌==◌, ◌||◌, cond, inl, inr, ⊎_elim, List, [], ◌∷◌, ◌++◌, map, length, get_or, take, drop, arith, refl, ap, ap₂, sym, ◌∙◌, subst}
 use Rattle.std.specs.Int.{div_ceil}
-use Rattle.std.specs.List.{All, AllByRecursion, filter, list_any, sum_by}
+use Rattle.std.specs.List.{AllByRecursion, filter, list_any, sum_by}
 use Rattle.std.proofs.lemmas.Bool.{and_from, and_left, and_right, cases_eq, cases_lt, eq-eqb, eqb-true, ne_eqb}
 use Rattle.std.proofs.lemmas.List.{at_drop_more, drop_all, drop-drop, get_or_default, length-map, take-append-drop}
 use Rattle.std.proofs.lemmas.List.Elements.{All-take, recursion_from_All}
@@ -144,12 +144,14 @@ unfolding mpus_of
 names-in a asset [] own there = tt
 names-in a asset (n ∷ ns) own there =
     let l : n.1 < length asset.mpus = there.0 own.0 in
-    let block : List PlacedMpu = map_from (placed_in a asset) 0 asset.mpus in
-    (record {
-      mpu = placed_in a asset n.1 (mpu_in asset n.1);
-      here = subst (λ m. IsIn m block) (at-map_from_0 (placed_in a asset) asset.mpus n.1 no_mpu no_placed_mpu l) (in-at block n.1 no_placed_mpu (omega (arith, l, length-map_from (placed_in a asset) 0 asset.mpus)));
-      same = ap (λ x. (x, n.1)) (sym own.0);
-    }, names-in a asset ns own.1 there.1)
+    let block : List PlacedMpu = map_from (placed_in a asset) 0 asset.mpus in (
+      record {
+        mpu = placed_in a asset n.1 (mpu_in asset n.1);
+        here = subst (λ m. IsIn m block) (at-map_from_0 (placed_in a asset) asset.mpus n.1 no_mpu no_placed_mpu l) (in-at block n.1 no_placed_mpu (omega (arith, l, length-map_from (placed_in a asset) 0 asset.mpus)));
+        same = ap (λ x. (x, n.1)) (sym own.0);
+      },
+      names-in a asset ns own.1 there.1,
+    )
 
 each-front : {X : Type 0} (P : X → Type 0) (k : ℕ) (xs : List X) → AllByRecursion P xs → AllByRecursion P (take k xs)
 each-front P zero xs e = tt

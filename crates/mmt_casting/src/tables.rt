@@ -2,7 +2,6 @@
 
 ghost use Rattle.std.specs.Prelude.{◌≡◌, ◌+◌, ◌*◌, ◌≤◌, ◌<◌, ◌^◌, drop, length, option_map};
 ghost use Rattle.std.specs.Int.{div_ceil};
-
 ghost use Rattle.mmt_casting.specs.Ends.{NamesFit, ProgrammeFits, SignalFits, extended_of_mpu, own_count, part_bytes};
 ghost use Rattle.mmt_cast.specs.Tables.{table_length as length_of_table};
 

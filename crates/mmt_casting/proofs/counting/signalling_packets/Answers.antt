@@ -1,4 +1,4 @@
-use Rattle.std.proofs.Common.{arith, ap, sym, ◌∙◌}
+use Rattle.std.proofs.Common.{arith, ap, ◌∙◌}
 use Rattle.mmt_cast.specs.Placing.{map_from}
 use Rattle.mmt_cast.specs.Refusing.{refusal_of_signals}
 use Rattle.mmt_cast.specs.Sending.{packet_count, sending_of_signal}

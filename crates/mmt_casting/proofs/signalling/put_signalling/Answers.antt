@@ -1,4 +1,4 @@
-use Rattle.std.proofs.Common.{◌≡◌, ◌<◌, ◌≤◌, ◌+◌, List, length, get_or, arith, ap, sym, ◌∙◌}
+use Rattle.std.proofs.Common.{◌≡◌, ◌<◌, List, length, get_or, arith, ap, sym, ◌∙◌}
 use Rattle.mmt_cast.specs.Refusing.{refusal_of_signals}
 use Rattle.mmt_casting.proofs.Announced.{message-numbers, number-first, number-more, packets-done, packets-first, packets-next}
 use Rattle.mmt_casting.proofs.Counts.{signal-here, signals-later, tables-none}

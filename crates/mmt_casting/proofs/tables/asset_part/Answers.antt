@@ -1,4 +1,4 @@
-use Rattle.std.proofs.Common.{◌≡◌, ◌<◌, List, length, get_or, arith, ap, sym, ◌∙◌}
+use Rattle.std.proofs.Common.{◌≡◌, arith, ap}
 use Rattle.mmt_casting.proofs.OwnNames.{asset-read, bytes-end, bytes-here, bytes-over, mpu-read, name-there, own-end, own-here, own-over, part-is}
 use Rattle.mmt_casting.specs.Ends.{extended_of_mpu}
 use Rattle.mmt_casting.specs.Places.{asset_at}

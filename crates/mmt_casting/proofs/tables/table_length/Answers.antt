@@ -1,4 +1,4 @@
-use Rattle.std.proofs.Common.{◌≡◌, ◌<◌, ◌+◌, length, arith, ap, refl, subst, sym}
+use Rattle.std.proofs.Common.{◌≡◌, ◌<◌, ◌+◌, length, arith, refl, subst, sym}
 use Rattle.std.specs.List.{sum_by}
 use Rattle.mmt_cast.specs.Placing.{map_from}
 use Rattle.mmt_cast.specs.Tables.{asset_length}
