@@ -1,26 +1,21 @@
 -- How far a walk over the signalling messages of a programme has come.
-use Rattle.std.proofs.Common.{◌≡◌, ℕ, ◌+◌, ◌-◌, ◌*◌, ◌<◌, ◌≤◌, ◌^◌, suc, zero, Bool, true, false, nat_le, cond, List, [], ◌∷◌, ◌++◌, map, length, get_or, take, drop, arith, refl, ap, ap₂, sym, ◌∙◌, subst, append_assoc, None}
-use Rattle.std.proofs.lemmas.List.{append-nil, at_drop_more, drop_all, length-take, take_all, take_more}
+use Rattle.std.proofs.Common.{◌≡◌, ℕ, ◌+◌, ◌<◌, ◌≤◌, ◌^◌, suc, zero, List, [], ◌∷◌, ◌++◌, map, length, get_or, take, drop, arith, refl, ap, ap₂, sym, ◌∙◌, append_assoc, None}
+use Rattle.std.proofs.lemmas.List.{append-nil, length-take, take_all, take_more}
 use Rattle.mmt_base.specs.declared.ticks.LongTick.{LongTick}
 use Rattle.mmt_cast.proofs.Found.{numbers-fit}
-use Rattle.mmt_cast.proofs.FromRight.{ticks-fit}
 use Rattle.mmt_cast.proofs.Numbering.{before, flat}
 use Rattle.mmt_cast.proofs.Refusals.{few-packets}
 use Rattle.mmt_cast.proofs.Running.{count-own_more}
 use Rattle.mmt_cast.specs.Casting.{count_of_id, numbered_after}
 use Rattle.mmt_cast.specs.Placing.{flat_map_from, map_from}
-use Rattle.mmt_cast.specs.Readable.{tick_of_signal}
-use Rattle.mmt_cast.specs.Refusing.{refusal, refusal_of_signal}
-use Rattle.mmt_cast.specs.Right.{no_signal, signal_at}
-use Rattle.mmt_cast.specs.Sending.{Sending, id_of, packet_count, sending_of_signal, sendings, sendings_of_units}
+use Rattle.mmt_cast.specs.Refusing.{refusal}
+use Rattle.mmt_cast.specs.Sending.{Sending, id_of, packet_count, sending_of_signal, sendings}
 use Rattle.mmt_cast.specs.Tables.{table_message_length}
 use Rattle.mmt_casting.proofs.Adding.{one-number}
-use Rattle.mmt_casting.proofs.Counts.{signal-here, signals-later, tables-none}
 use Rattle.mmt_casting.proofs.Progress.{packets-more}
 use Rattle.mmt_casting.specs.Numbered.{numbered_packet, numbered_packets}
 use Rattle.mmt_casting.specs.Places.{sendings_from}
 use Rattle.mmt_casting.specs.Spans.{signalling}
-use Rattle.mmt_model.specs.Right.{IsRight}
 use Rattle.mmt_model.specs.declared.casts.Sent.{Sent}
 use Rattle.mmt_model.specs.declared.programmes.Programme.{Programme}
 use Rattle.mmt_model.specs.declared.programmes.Signal.{Signal}
@@ -138,13 +133,8 @@ pub packets-done : (programme : Programme) (s : ℕ) (packets : List Sent) → l
 unfolding signalling
 packets-done programme s packets ge e = e ∙ ap (λ xs. numbered_after [] (flat programme (map_from (sending_of_signal programme) 0 xs))) (take_all s programme.signals ge)
 
--- ---- what a message has
+-- ---- the packets of a message
 
-pub message-tick : (programme : Programme) → IsRight programme → (s : ℕ) (x : Signal) → s < length programme.signals → x ≡ get_or programme.signals s no_signal → tick_of_signal x ≤ 2 ^ 48
-unfolding signal_at
-message-tick programme right s x l is = omega (arith, (ticks-fit programme right).signals s l, ap tick_of_signal is)
-
--- the packets of a message
 pub parameters-all : (programme : Programme) (s number : ℕ) (p : Sent) (start items : List Sent) (x : Signal) (at : LongTick) → x ≡ signals.Parameters at → p ≡ numbered_packet programme (Sending.Parameters s at.0) number 0
     → items ≡ start ++ p ∷ [] → items ≡ start ++ numbered_packets programme (sending_of_signal programme s x) number
 unfolding packet_count sending_of_signal

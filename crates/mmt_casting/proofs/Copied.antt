@@ -1,14 +1,11 @@
 -- The table copies, message by message.
-use Rattle.std.proofs.Common.{◌≡◌, ℕ, ◌+◌, ◌-◌, ◌*◌, ◌<◌, ◌≤◌, suc, zero, List, [], ◌∷◌, ◌++◌, map, length, get_or, take, drop, arith, refl, ap, ap₂, sym, ◌∙◌, subst, None}
+use Rattle.std.proofs.Common.{◌≡◌, ℕ, ◌+◌, ◌-◌, ◌*◌, ◌<◌, ◌≤◌, List, [], ◌∷◌, ◌++◌, map, length, get_or, take, arith, refl, ap, ap₂, sym, ◌∙◌}
 use Rattle.std.proofs.lemmas.Bool.{eq-eqb}
 use Rattle.std.proofs.lemmas.List.{take_all}
 use Rattle.mmt_base.specs.declared.ticks.LongTick.{LongTick}
-use Rattle.mmt_cast.proofs.FromRight.{cast-right}
-use Rattle.mmt_cast.proofs.Numbering.{before}
 use Rattle.mmt_cast.proofs.Running.{span_by, table-span-is}
-use Rattle.mmt_cast.specs.Casting.{Span, copies_as_sent, copy_as_sent, place_of_mpu, span_of_table}
+use Rattle.mmt_cast.specs.Casting.{Span, copies_as_sent, copy_as_sent, place_of_mpu}
 use Rattle.mmt_cast.specs.Placing.{all_mpus, flat_map_from}
-use Rattle.mmt_cast.specs.Right.{NamesKnown, no_signal, signal_at}
 use Rattle.mmt_cast.specs.Sending.{Sending, packet_count, sending_of_signal, tick_of_packet}
 use Rattle.mmt_cast.specs.Tables.{table_message_length}
 use Rattle.mmt_casting.proofs.Announced.{before-message, flat-from-more, message-split, messages_before, number_before, rest_after}
@@ -74,14 +71,3 @@ copies-none programme = refl
 pub copies-done : (programme : Programme) (s : ℕ) (copies : List TableCopy) → length programme.signals ≤ s → copies ≡ flat_map_from (copy_as_sent programme) 0 (take s programme.signals) → copies ≡ copies_as_sent programme
 unfolding copies_as_sent
 copies-done programme s copies ge e = e ∙ ap (flat_map_from (copy_as_sent programme) 0) (take_all s programme.signals ge)
-
--- ---- what a message has
-
-default : {X : Type 0} (xs : List X) (i : ℕ) (d e : X) → i < length xs → get_or xs i d ≡ get_or xs i e
-default [] i d e l = absurd (omega arith)
-default (x ∷ xs) zero d e l = refl
-default (x ∷ xs) (suc i) d e l = default xs i d e (omega arith)
-
-pub names-known : (programme : Programme) → IsRight programme → (s : ℕ) (x d : Signal) → s < length programme.signals → x ≡ get_or programme.signals s d → NamesKnown programme x
-unfolding signal_at
-names-known programme right s x d l is = subst (NamesKnown programme) (sym (is ∙ default programme.signals s d no_signal l)) ((cast-right programme right).known s l)

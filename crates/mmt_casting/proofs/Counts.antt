@@ -1,11 +1,10 @@
 -- How many packets groups and messages have.
-use Rattle.std.proofs.Common.{◌≡◌, ℕ, ◌+◌, ◌*◌, ◌/◌, ◌<◌, ◌≤◌, ◌^◌, Bool, true, false, nat_le, nat_lt, cond, List, ◌∷◌, length, get_or, drop, arith, refl, ap, ap₂, sym, ◌∙◌, Option, Some, None, option_map, is_some, true≢false}
+use Rattle.std.proofs.Common.{◌≡◌, ℕ, ◌+◌, ◌/◌, ◌<◌, ◌≤◌, Bool, true, false, nat_le, cond, List, length, get_or, drop, arith, refl, ap, sym, ◌∙◌, Option, Some, None, option_map, is_some, true≢false}
 use Rattle.std.proofs.Math.Nat.{mul-le-mul_left}
 use Rattle.std.proofs.lemmas.Bool.{le-ltb, leb-true, lt-ltb}
 use Rattle.mmt_cast.proofs.FromRight.{right-unit}
-use Rattle.mmt_cast.specs.Casting.{planned}
-use Rattle.mmt_cast.specs.Placing.{PlacedUnit, all_mpus, all_units}
-use Rattle.mmt_cast.specs.Refusing.{Refusal, first_of, refusal, refusal_of_mpus, refusal_of_packets, refusal_of_signal, refusal_of_signals}
+use Rattle.mmt_cast.specs.Placing.{PlacedUnit, all_mpus}
+use Rattle.mmt_cast.specs.Refusing.{Refusal, first_of, refusal, refusal_of_mpus, refusal_of_signal, refusal_of_signals}
 use Rattle.mmt_cast.specs.Right.{unit_at}
 use Rattle.mmt_cast.specs.Sending.{Sending, packet_count, sending_of_signal}
 use Rattle.mmt_cast.specs.Tables.{table_length, table_message_length}

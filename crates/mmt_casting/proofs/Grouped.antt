@@ -1,10 +1,10 @@
 -- The packets of a group.
-use Rattle.std.proofs.Common.{◌≡◌, ℕ, ◌+◌, ◌-◌, ◌*◌, ◌<◌, ◌≤◌, ◌^◌, Bool, true, false, ◌==◌, nat_lt, cond, List, [], ◌∷◌, ◌++◌, map, length, arith, refl, ap, ap₂, sym, ◌∙◌, subst, ⊎_elim, mul-le-mul}
+use Rattle.std.proofs.Common.{◌≡◌, ℕ, ◌+◌, ◌-◌, ◌*◌, ◌<◌, ◌≤◌, ◌^◌, Bool, ◌==◌, cond, List, [], ◌∷◌, ◌++◌, map, length, arith, refl, ap, ap₂, sym, ◌∙◌, subst, ⊎_elim, mul-le-mul}
 use Rattle.std.proofs.lemmas.Bool.{cases_lt, le-ltb, lt-ltb}
 use Rattle.mmt_base.specs.declared.ticks.LongTick.{LongTick}
-use Rattle.mmt_cast.proofs.FromRight.{right-unit, ticks-fit}
+use Rattle.mmt_cast.proofs.FromRight.{right-unit}
 use Rattle.mmt_cast.specs.Casting.{with_number}
-use Rattle.mmt_cast.specs.Placing.{PlacedMpu, PlacedUnit, all_units}
+use Rattle.mmt_cast.specs.Placing.{PlacedUnit}
 use Rattle.mmt_cast.specs.Right.{no_placed_unit, unit_at}
 use Rattle.mmt_cast.specs.Sending.{Sending, carried, id_of, packet_count, packet_of, payload_length, rap_of, tick_of_packet}
 use Rattle.mmt_casting.proofs.Adding.{one-number}
@@ -12,7 +12,7 @@ use Rattle.mmt_casting.proofs.Putting.{alone-is-sent}
 use Rattle.mmt_casting.proofs.Spots.{unit-of}
 use Rattle.mmt_casting.specs.Alone.{alone_packets}
 use Rattle.mmt_casting.specs.Numbered.{numbered_packet, numbered_packets}
-use Rattle.mmt_casting.specs.Places.{IsGroup, IsSpot, asset_at, placed_at, sending_at, unit_in}
+use Rattle.mmt_casting.specs.Places.{IsGroup, IsSpot, asset_at, sending_at}
 use Rattle.mmt_casting.specs.Spans.{run_by}
 use Rattle.mmt_casting.specs.declared.alone.Place.{Place}
 use Rattle.mmt_casting.specs.declared.groups.Group.{Group}

@@ -1,5 +1,5 @@
 -- The times of an MPU's units, found by walking over its access units.
-use Rattle.std.proofs.Common.{◌≡◌, ℕ, ◌+◌, ◌-◌, ◌*◌, ◌<◌, ◌≤◌, suc, zero, Bool, true, false, ◌&&◌, nat_le, nat_lt, cond, max, List, [], ◌∷◌, map, length, get_or, drop, arith, refl, ap, ap₂, sym, ◌∙◌, Option, Some, None, option_map}
+use Rattle.std.proofs.Common.{◌≡◌, ℕ, ◌+◌, ◌-◌, ◌<◌, ◌≤◌, suc, zero, nat_le, nat_lt, cond, max, List, [], ◌∷◌, map, length, get_or, drop, arith, refl, ap, ap₂, sym, ◌∙◌, Option, Some, None, option_map}
 use Rattle.std.specs.List.{fold}
 use Rattle.std.proofs.lemmas.Bool.{and_from, and_left, and_right, le-leb, le-ltb, lt-leb, lt-ltb}
 use Rattle.std.proofs.lemmas.List.{at_drop_more, drop_all, length-map}

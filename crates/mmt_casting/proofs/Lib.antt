@@ -18,3 +18,4 @@ pub mod Copied
 pub mod NamedFrom
 pub mod MpusSent
 pub mod Together
+pub mod OwnNames

@@ -1,48 +1,20 @@
 -- How long tables are, by walking over names, MPUs and assets.
-use Rattle.std.proofs.Common.{◌≡◌, ℕ, ◌+◌, ◌*◌, ◌<◌, ◌≤◌, true, false, nat_le, cond, option_map, subst, List, [], ◌∷◌, length, get_or, drop, arith, refl, ap, sym, ◌∙◌, Some, None}
+use Rattle.std.proofs.Common.{◌≡◌, ℕ, ◌+◌, ◌*◌, ◌<◌, ◌≤◌, nat_le, cond, option_map, List, length, get_or, drop, arith, ap, sym, ◌∙◌, Some, None}
 use Rattle.std.proofs.lemmas.List.{at_drop_more, drop_all}
 use Rattle.std.proofs.lemmas.List.Sums.{sum_by-cons}
 use Rattle.std.proofs.lemmas.Bool.{le-leb, lt-leb}
-use Rattle.std.specs.List.{AllByRecursion, filter, list_any, sum_by}
-use Rattle.mmt_cast.specs.Placing.{PlacedMpu, map_from, mpus_of}
+use Rattle.std.specs.List.{sum_by}
+use Rattle.mmt_cast.specs.Placing.{map_from}
 use Rattle.mmt_cast.specs.Refusing.{Refusal, first_of, refusal_of_signal, refusal_of_signals}
-use Rattle.mmt_cast.specs.Tables.{asset_length, descriptors_length, table_length, extended_length, is_named_by, is_same_pair, named_of_asset}
-use Rattle.mmt_casting.proofs.FirstOut.{all-at, placed_in}
-use Rattle.mmt_casting.specs.Ends.{FewAus, end_of, extended_of_mpu}
+use Rattle.mmt_cast.specs.Tables.{asset_length, descriptors_length, table_length, extended_length, named_of_asset}
+use Rattle.mmt_casting.specs.Ends.{end_of}
 use Rattle.mmt_base.specs.declared.ticks.LongTick.{LongTick}
 use Rattle.std.specs.Int.{div_ceil}
 use Rattle.mmt_casting.specs.declared.ends.CastEnd.TheVariants as ends
 use Rattle.mmt_model.specs.declared.programmes.Signal.TheVariants as signals
 use Rattle.mmt_model.specs.declared.programmes.Asset.{Asset}
-use Rattle.mmt_model.specs.declared.programmes.Mpu.{Mpu}
 use Rattle.mmt_model.specs.declared.programmes.Programme.{Programme}
 use Rattle.mmt_model.specs.declared.programmes.Signal.{Signal}
-
--- the MPUs of an asset that are named, from one on
-abbrev pub named_from : List (ℕ × ℕ) → ℕ → Asset → ℕ → List Mpu → List PlacedMpu
-named_from names a asset b mpus = filter (is_named_by names) (map_from (placed_in a asset) b (drop b mpus))
-
-pub named-first : (names : List (ℕ × ℕ)) (a : ℕ) (asset : Asset) (mpus : List Mpu) → mpus ≡ asset.mpus → named_of_asset names a asset ≡ named_from names a asset 0 mpus
-unfolding named_of_asset mpus_of
-named-first names a asset mpus same = ap (λ xs. filter (is_named_by names) (map_from (placed_in a asset) 0 xs)) (sym same)
-
-pub named-yes : (names : List (ℕ × ℕ)) (a : ℕ) (asset : Asset) (b : ℕ) (mpus : List Mpu) (d : Mpu) → b < length mpus → true ≡ list_any (is_same_pair (a, b)) names
-    → named_from names a asset b mpus ≡ placed_in a asset b (get_or mpus b d) ∷ named_from names a asset (b + 1) mpus
-unfolding map_from is_named_by
-named-yes names a asset b mpus d l is-so =
-    at_drop_more (λ xs. filter (is_named_by names) (map_from (placed_in a asset) b xs)) mpus b d l
-    ∙ ap (λ t. cond t (placed_in a asset b (get_or mpus b d) ∷ named_from names a asset (b + 1) mpus) (named_from names a asset (b + 1) mpus)) (sym is-so)
-
-pub named-no : (names : List (ℕ × ℕ)) (a : ℕ) (asset : Asset) (b : ℕ) (mpus : List Mpu) (d : Mpu) → b < length mpus → false ≡ list_any (is_same_pair (a, b)) names
-    → named_from names a asset b mpus ≡ named_from names a asset (b + 1) mpus
-unfolding map_from is_named_by
-named-no names a asset b mpus d l not-so =
-    at_drop_more (λ xs. filter (is_named_by names) (map_from (placed_in a asset) b xs)) mpus b d l
-    ∙ ap (λ t. cond t (placed_in a asset b (get_or mpus b d) ∷ named_from names a asset (b + 1) mpus) (named_from names a asset (b + 1) mpus)) (sym not-so)
-
-pub named-past : (names : List (ℕ × ℕ)) (a : ℕ) (asset : Asset) (b : ℕ) (mpus : List Mpu) → length mpus ≤ b → named_from names a asset b mpus ≡ []
-unfolding map_from
-named-past names a asset b mpus l = ap (λ xs. filter (is_named_by names) (map_from (placed_in a asset) b xs)) (drop_all b mpus l)
 
 -- the lengths of the assets from one on
 abbrev pub lengths_from : List (ℕ × ℕ) → ℕ → List Asset → ℕ
@@ -71,27 +43,6 @@ signals-next programme s signals x l is =
 pub signals-past : (programme : Programme) (s : ℕ) (signals : List Signal) → length signals ≤ s → refusal_of_signals programme s (drop s signals) ≡ None
 unfolding refusal_of_signals
 signals-past programme s signals l = ap (refusal_of_signals programme s) (drop_all s signals l)
-
--- what an MPU adds
-pub count-yes : (names : List (ℕ × ℕ)) (a : ℕ) (asset : Asset) (b : ℕ) (mpus : List Mpu) (m : Mpu) → b < length mpus → true ≡ list_any (is_same_pair (a, b)) names
-    → length (named_from names a asset b mpus) ≡ 1 + length (named_from names a asset (b + 1) mpus)
-count-yes names a asset b mpus m l is-so = omega (arith, ap (λ (xs : List PlacedMpu). length xs) (named-yes names a asset b mpus m l is-so))
-
-pub sum-yes : (names : List (ℕ × ℕ)) (a : ℕ) (asset : Asset) (b : ℕ) (mpus : List Mpu) (m : Mpu) → b < length mpus → m ≡ get_or mpus b m → true ≡ list_any (is_same_pair (a, b)) names
-    → sum_by extended_length (named_from names a asset b mpus) ≡ extended_length (placed_in a asset b m) + sum_by extended_length (named_from names a asset (b + 1) mpus)
-sum-yes names a asset b mpus m l is is-so =
-    ap (sum_by extended_length) (named-yes names a asset b mpus m l is-so)
-    ∙ sum_by-cons extended_length (placed_in a asset b (get_or mpus b m)) (named_from names a asset (b + 1) mpus)
-    ∙ ap (λ x. extended_length (placed_in a asset b x) + sum_by extended_length (named_from names a asset (b + 1) mpus)) (sym is)
-
-pub extended-is : (a : ℕ) (asset : Asset) (b : ℕ) (m : Mpu) → extended_length (placed_in a asset b m) ≡ extended_of_mpu m
-unfolding extended_length
-extended-is a asset b m = refl
-
-pub few-at : (asset : Asset) (mpus : List Mpu) (b : ℕ) (m : Mpu) → mpus ≡ asset.mpus → b < length mpus → m ≡ get_or mpus b m → AllByRecursion FewAus asset.mpus → length m.aus ≤ 60
-few-at asset mpus b m same l is all =
-    let few : FewAus (get_or mpus b m) = all-at FewAus mpus b m l (subst (AllByRecursion FewAus) (sym same) all) in
-    omega (arith, few, ap (λ (x : Mpu). length x.aus) is)
 
 -- the length of an asset by its sums
 pub asset-sums : (names : List (ℕ × ℕ)) (a : ℕ) (asset : Asset) (id up named extended : ℕ) → id ≡ length asset.id → length (named_of_asset names a asset) ≡ named → sum_by extended_length (named_of_asset names a asset) ≡ extended

@@ -1,8 +1,8 @@
 -- The MPUs that are sent, each by its units and the copies that name it.
-use Rattle.std.proofs.Common.{◌≡◌, ℕ, ◌+◌, ◌-◌, ◌<◌, ◌≤◌, suc, zero, min, max, Bool, true, false, ◌==◌, cond, List, [], ◌∷◌, ◌++◌, map, length, get_or, take, drop, arith, refl, ap, ap₂, sym, ◌∙◌, subst, Option, None}
+use Rattle.std.proofs.Common.{◌≡◌, ℕ, ◌+◌, ◌<◌, ◌≤◌, suc, zero, min, max, Bool, true, false, ◌==◌, cond, List, [], ◌∷◌, ◌++◌, map, length, get_or, take, drop, arith, refl, ap, ap₂, sym, ◌∙◌, Option, None}
 use Rattle.std.specs.List.{AllByRecursion, filter, fold}
 use Rattle.std.proofs.lemmas.Bool.{eq-eqb, ne_eqb}
-use Rattle.std.proofs.lemmas.List.{append-nil, at_drop_more, length-append, length-drop, length-map, length-take, map-append, take_all, take_more}
+use Rattle.std.proofs.lemmas.List.{append-nil, at_drop_more, length-drop, length-map, length-take, map-append, take_more}
 use Rattle.std.proofs.lemmas.List.Elements.{filter-append}
 use Rattle.mmt_base.specs.Ticks.{due_of}
 use Rattle.mmt_base.specs.declared.ticks.LongTick.{LongTick}
@@ -25,7 +25,6 @@ use Rattle.mmt_model.specs.Right.{IsRight}
 use Rattle.mmt_model.specs.declared.casts.SentMpu.{SentMpu}
 use Rattle.mmt_model.specs.declared.casts.SentUnit.{SentUnit}
 use Rattle.mmt_model.specs.declared.programmes.Programme.{Programme}
-use Rattle.mmt_model.specs.declared.programmes.Unit.{Unit as PlannedUnit}
 use Rattle.mmt_times.specs.Times.{in_range}
 
 -- ---- the least of several numbers

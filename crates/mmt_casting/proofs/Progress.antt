@@ -1,34 +1,33 @@
 -- How far a walk over the units of a programme has come.
-use Rattle.std.proofs.Common.{◌≡◌, ℕ, ◌+◌, ◌-◌, ◌*◌, ◌<◌, ◌≤◌, ◌^◌, suc, zero, Bool, true, false, ◌==◌, ◌&&◌, nat_le, nat_lt, cond, List, [], ◌∷◌, ◌++◌, map, length, get_or, drop, arith, refl, ap, ap₂, sym, ◌∙◌, subst, ⊎_elim, append_assoc, None}
-use Rattle.std.specs.List.{flat_map}
+use Rattle.std.proofs.Common.{◌≡◌, ℕ, ◌+◌, ◌<◌, ◌≤◌, ◌^◌, Bool, true, nat_le, nat_lt, cond, List, [], ◌∷◌, ◌++◌, map, length, get_or, arith, refl, ap, ap₂, sym, ◌∙◌, ⊎_elim, append_assoc, None}
 use Rattle.std.proofs.lemmas.Bool.{and_from, cases_eq, cases_lt, eq-eqb, le-leb, lt-ltb, ne_eqb}
-use Rattle.std.proofs.lemmas.List.{append-nil, length-append, length-drop, map-append}
+use Rattle.std.proofs.lemmas.List.{append-nil, length-drop, map-append}
 use Rattle.std.proofs.lemmas.List.Concat.{flat_map-append}
 use Rattle.mmt_cast.proofs.Covering.{covers_unit}
 use Rattle.mmt_cast.proofs.Found.{numbers-fit}
 use Rattle.mmt_cast.proofs.FromRight.{cast-right}
 use Rattle.mmt_cast.proofs.Listing.{same-map_numbers}
-use Rattle.mmt_cast.proofs.Numbering.{before, count-append, flat, numbered-append, numbered-packets, packet_after, piece}
+use Rattle.mmt_cast.proofs.Numbering.{before, count-append, flat, numbered-append, numbered-packets, piece}
 use Rattle.mmt_cast.proofs.Refusals.{few-packets}
 use Rattle.mmt_cast.proofs.Running.{count-other_more, count-own_more, span_by, unit-span-is}
-use Rattle.mmt_cast.specs.Casting.{Span, cast_of, count_of_id, due_of_placed, numbered_after, planned, span_of_unit, time_of_unit, unit_as_sent}
+use Rattle.mmt_cast.specs.Casting.{Span, cast_of, count_of_id, due_of_placed, numbered_after, planned, time_of_unit, unit_as_sent}
 use Rattle.mmt_cast.specs.Placing.{PlacedUnit, all_units, map_from}
 use Rattle.mmt_cast.specs.Refusing.{refusal}
 use Rattle.mmt_cast.specs.Right.{no_placed_unit, unit_at}
-use Rattle.mmt_cast.specs.Sending.{Sending, id_of, packet_count, packets_of, sending_of_signal, sendings, sendings_of_units}
+use Rattle.mmt_cast.specs.Sending.{Sending, id_of, packet_count, packets_of, sending_of_signal, sendings}
 use Rattle.mmt_casting.proofs.Adding.{by-places, numbers-add}
 use Rattle.mmt_casting.proofs.Grouped.{alone-is, asset-is, count-some, several-is}
 use Rattle.mmt_casting.proofs.Sendings.{end-spot, sendings-end, sendings-step, sendings_of_signals}
 use Rattle.mmt_casting.proofs.Spots.{unit-of}
 use Rattle.mmt_casting.proofs.UnitTimes.{made}
 use Rattle.mmt_casting.specs.Numbered.{numbered_packet, numbered_packets}
-use Rattle.mmt_casting.specs.Places.{IsGroup, IsSpot, asset_at, sending_at, sendings_from, size_at}
+use Rattle.mmt_casting.specs.Places.{IsGroup, IsSpot, asset_at, sending_at, sendings_from}
 use Rattle.mmt_casting.specs.Spans.{next_number, run_by, signalling, unit_by, units_by}
 use Rattle.mmt_casting.specs.declared.groups.Group.{Group}
 use Rattle.mmt_casting.specs.declared.places.Spot.{Spot}
 use Rattle.mmt_casting.specs.declared.units.Run.{Run}
 use Rattle.mmt_model.specs.Carrying.{numbers}
-use Rattle.mmt_model.specs.Right.{IsRight, no_asset}
+use Rattle.mmt_model.specs.Right.{IsRight}
 use Rattle.mmt_model.specs.declared.casts.Sent.{Sent}
 use Rattle.mmt_model.specs.declared.casts.SentUnit.{SentUnit}
 use Rattle.mmt_model.specs.declared.programmes.Asset.{Asset}

@@ -1,7 +1,6 @@
 -- What is sent from a unit on, and how many packets there are.
-use Rattle.std.proofs.Common.{◌≡◌, ℕ, ◌+◌, ◌-◌, ◌*◌, ◌<◌, ◌≤◌, ◌^◌, suc, zero, Bool, true, false, cond, nat_lt, List, [], ◌∷◌, ◌++◌, map, length, get_or, drop, arith, refl, ap, ap₂, sym, ◌∙◌, option_map, is_some, Option, Some, None, true≢false}
-use Rattle.std.specs.List.{AllByRecursion, flat_map, sum_by}
-use Rattle.std.proofs.lemmas.Bool.{ltb-false, ltb-true}
+use Rattle.std.proofs.Common.{◌≡◌, ℕ, ◌+◌, ◌-◌, ◌<◌, ◌≤◌, suc, zero, Bool, true, false, List, [], ◌∷◌, ◌++◌, length, get_or, drop, arith, refl, ap, ap₂, sym, ◌∙◌}
+use Rattle.std.specs.List.{sum_by}
 use Rattle.std.proofs.lemmas.List.{at_drop_more, drop_all, drop-drop, length-append, length-map}
 use Rattle.std.proofs.lemmas.List.Elements.{recursion_from_All}
 use Rattle.std.proofs.lemmas.List.Sums.{sum_by-append, sum_by-cons}
@@ -10,19 +9,18 @@ use Rattle.mmt_cast.proofs.Grouping.{group-some}
 use Rattle.mmt_cast.proofs.Listing.{length-map_from}
 use Rattle.mmt_cast.proofs.Numbering.{flat, length-numbered}
 use Rattle.mmt_cast.specs.Casting.{planned}
-use Rattle.mmt_cast.specs.Placing.{PlacedMpu, PlacedUnit, all_mpus, all_units, flat_map_from, map_from, mpus_of, units_of}
+use Rattle.mmt_cast.specs.Placing.{PlacedUnit, all_mpus, all_units, flat_map_from, map_from, mpus_of, units_of}
 use Rattle.mmt_cast.specs.Right.{no_mpu, no_placed_unit, unit_at}
 use Rattle.mmt_cast.specs.Sending.{Sending, group_size, packet_count, packet_of, packets_of, sending_of_signal, sending_of_units, sendings, sendings_of_units}
 use Rattle.mmt_casting.proofs.Spots.{beyond, flat-long}
 use Rattle.mmt_casting.specs.Ends.{AssetFits, FewAus, ProgrammeFits}
-use Rattle.mmt_casting.specs.Places.{IsGroup, IsSpot, asset_at, mpu_in, mpus_from, placed_in, sending_at, sending_by, sendings_from, size_at, unit_in, units_from}
+use Rattle.mmt_casting.specs.Places.{IsGroup, IsSpot, mpu_in, mpus_from, placed_in, sending_at, sendings_from, size_at, unit_in, units_from}
 use Rattle.mmt_casting.specs.declared.groups.Group.{Group}
 use Rattle.mmt_casting.specs.declared.places.Spot.{Spot}
 use Rattle.mmt_frag.proofs.PartsJoined.{length-numbers}
 use Rattle.mmt_model.specs.Carrying.{numbers}
-use Rattle.mmt_model.specs.Right.{FitsAus, IsRight, IsRightAsset, no_asset}
+use Rattle.mmt_model.specs.Right.{FitsAus, IsRight, no_asset}
 use Rattle.mmt_model.specs.declared.programmes.Asset.{Asset}
-use Rattle.mmt_model.specs.declared.programmes.Mpu.{Mpu}
 use Rattle.mmt_model.specs.declared.programmes.Programme.{Programme}
 use Rattle.mmt_model.specs.declared.programmes.Signal.{Signal}
 

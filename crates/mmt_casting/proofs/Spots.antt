@@ -1,8 +1,8 @@
 -- Spots of a walk over the units of a programme: the first, and the next.
-use Rattle.std.proofs.Common.{◌≡◌, ℕ, ◌+◌, ◌-◌, ◌*◌, ◌<◌, ◌≤◌, ◌^◌, suc, zero, max, Bool, true, false, nat_le, nat_lt, cond, inl, inr, ◌⊎◌, ⊎_elim, List, [], ◌∷◌, ◌++◌, map, length, get_or, take, drop, arith, refl, ap, ap₂, sym, ◌∙◌, subst}
+use Rattle.std.proofs.Common.{◌≡◌, ℕ, ◌+◌, ◌-◌, ◌<◌, ◌≤◌, ◌^◌, suc, zero, max, Bool, true, false, nat_le, nat_lt, cond, ⊎_elim, List, [], ◌∷◌, ◌++◌, length, get_or, drop, arith, refl, ap, ap₂, sym, ◌∙◌}
 use Rattle.std.proofs.lemmas.Bool.{cases_lt, ltb-false, ltb-true}
 use Rattle.std.proofs.lemmas.List.{at_drop_more, drop_all, drop-append-le, drop-drop, length-append, length-drop}
-use Rattle.mmt_cast.proofs.FromRight.{cast-right, ticks-fit}
+use Rattle.mmt_cast.proofs.FromRight.{ticks-fit}
 use Rattle.mmt_cast.proofs.Listing.{length-map_from}
 use Rattle.mmt_cast.proofs.Reading.{placed-unit}
 use Rattle.mmt_cast.specs.Placing.{PlacedMpu, PlacedUnit, all_mpus, all_units, flat_map_from, map_from, mpus_of, units_of}
@@ -14,7 +14,6 @@ use Rattle.mmt_casting.specs.declared.groups.Group.{Group}
 use Rattle.mmt_casting.specs.declared.places.Spot.{Spot}
 use Rattle.mmt_model.specs.Right.{IsRight, no_asset}
 use Rattle.mmt_model.specs.declared.programmes.Asset.{Asset}
-use Rattle.mmt_model.specs.declared.programmes.Mpu.{Mpu}
 use Rattle.mmt_model.specs.declared.programmes.Programme.{Programme}
 use Rattle.mmt_model.specs.declared.programmes.Unit.{Unit as PlannedUnit}
 

@@ -1,15 +1,14 @@
 -- The places of MPUs among all, by their places in their assets.
-use Rattle.std.proofs.Common.{◌≡◌, ℕ, ◌+◌, ◌<◌, ◌≤◌, ◌^◌, suc, zero, List, [], ◌∷◌, ◌++◌, map, length, get_or, take, drop, arith, refl, ap, ap₂, sym, ◌∙◌, subst}
-use Rattle.std.specs.List.{AllByRecursion, sum_by}
-use Rattle.std.proofs.lemmas.List.{length-append, length-map, map-append, take_more, take_all}
+use Rattle.std.proofs.Common.{◌≡◌, ℕ, ◌+◌, ◌<◌, ◌≤◌, ◌^◌, suc, zero, List, [], ◌∷◌, ◌++◌, map, length, get_or, take, arith, refl, ap, ap₂, sym, ◌∙◌}
+use Rattle.std.specs.List.{sum_by}
+use Rattle.std.proofs.lemmas.List.{length-append, length-map, map-append, take_more}
 use Rattle.std.proofs.lemmas.List.Sums.{sum_by-append, sum_by-cons}
 use Rattle.mmt_cast.proofs.FromRight.{ticks-fit}
-use Rattle.mmt_cast.proofs.Listing.{at-map_from_0, each-at, length-map_from}
+use Rattle.mmt_cast.proofs.Listing.{at-map_from_0, length-map_from}
 use Rattle.mmt_cast.proofs.Placed.{known-place, mpu-place}
 use Rattle.mmt_cast.specs.Casting.{place_of_mpu}
 use Rattle.mmt_cast.specs.Placing.{PlacedMpu, all_mpus, flat_map_from, map_from, mpus_of}
 use Rattle.mmt_cast.specs.Right.{mpu_at, no_mpu, no_placed_mpu}
-use Rattle.mmt_casting.proofs.Adding.{numbers-add, one-number}
 use Rattle.mmt_casting.specs.Places.{placed_in}
 use Rattle.mmt_casting.specs.Spans.{start_of, starts}
 use Rattle.mmt_frag.proofs.PartsJoined.{length-numbers}

@@ -1,5 +1,5 @@
 -- A cast, from its lists.
-use Rattle.std.proofs.Common.{◌≡◌, ℕ, ◌+◌, ◌<◌, ◌≤◌, List, [], ◌∷◌, ◌++◌, map, length, get_or, take, drop, arith, refl, ap, ap₂, sym, ◌∙◌, subst, inr, Option, Some, None, option_map, ◌⊎◌}
+use Rattle.std.proofs.Common.{◌≡◌, ℕ, ◌+◌, ◌<◌, ◌≤◌, List, [], ◌∷◌, ◌++◌, map, length, take, drop, arith, refl, ap, ap₂, sym, ◌∙◌, subst, inr, Option, Some, None, option_map}
 use Rattle.std.specs.List.{AllByRecursion, sum_by}
 use Rattle.std.proofs.lemmas.List.{append-nil, drop_all, length-append, take_all}
 use Rattle.std.proofs.lemmas.List.Sums.{sum_by-cons}
@@ -8,7 +8,7 @@ use Rattle.mmt_cast.proofs.FromRight.{cast-right}
 use Rattle.mmt_cast.proofs.Listing.{each-weaker, length-map_from}
 use Rattle.mmt_cast.proofs.Placed.{known-place}
 use Rattle.mmt_cast.specs.Casting.{cast_of, copies_as_sent, place_of_mpu}
-use Rattle.mmt_cast.specs.Placing.{PlacedMpu, all_mpus, flat_map_from, map_from, mpus_of}
+use Rattle.mmt_cast.specs.Placing.{all_mpus, flat_map_from, map_from, mpus_of}
 use Rattle.mmt_cast.specs.Refusing.{Refusal, refusal}
 use Rattle.mmt_cast.specs.Right.{NamesKnown}
 use Rattle.mmt_casting.specs.Ends.{IsEndOf, end_of}
@@ -17,7 +17,6 @@ use Rattle.mmt_casting.specs.Places.{placed_in}
 use Rattle.mmt_casting.specs.Spans.{start_of}
 use Rattle.mmt_casting.specs.declared.ends.CastEnd.{CastEnd}
 use Rattle.mmt_model.specs.Right.{IsKnown, IsRight}
-use Rattle.mmt_model.specs.declared.casts.Cast.{Cast}
 use Rattle.mmt_model.specs.declared.casts.Sent.{Sent}
 use Rattle.mmt_model.specs.declared.casts.SentMpu.{SentMpu}
 use Rattle.mmt_model.specs.declared.casts.SentUnit.{SentUnit}

@@ -1,5 +1,5 @@
 -- The time of a unit of a programme.
-use Rattle.std.proofs.Common.{◌≡◌, ℕ, ◌+◌, ◌<◌, ◌≤◌, List, [], ◌∷◌, length, get_or, arith, refl, ap, ap₂, sym, subst, ◌∙◌, Option, Some, None}
+use Rattle.std.proofs.Common.{◌≡◌, ℕ, ◌<◌, ◌≤◌, List, [], ◌∷◌, length, get_or, refl, ap, ap₂, sym, ◌∙◌, Option, Some, None}
 use Rattle.std.specs.List.{AllByRecursion}
 use Rattle.mmt_base.specs.declared.ticks.Ntp.{Ntp}
 use Rattle.mmt_cast.proofs.Listing.{each-at}
@@ -7,12 +7,12 @@ use Rattle.mmt_base.specs.Ticks.{due_of}
 use Rattle.mmt_base.specs.declared.ticks.LongTick.{LongTick}
 use Rattle.mmt_cast.specs.Casting.{due_of_placed, time_of_unit}
 use Rattle.mmt_cast.specs.Placing.{PlacedMpu, PlacedUnit, all_mpus, entry_of_mpu}
-use Rattle.mmt_cast.specs.Refusing.{Refusal, first_of, of_au, out_of_range, refusal_of_mpu, refusal_of_mpus}
+use Rattle.mmt_cast.specs.Refusing.{of_au, out_of_range, refusal_of_mpu, refusal_of_mpus}
 use Rattle.mmt_cast.specs.Right.{mpu_at, no_mpu, no_placed_mpu, no_placed_unit, unit_at}
 use Rattle.mmt_casting.proofs.Counts.{first-none, later-none}
 use Rattle.mmt_casting.proofs.Sendings.{few-aus}
 use Rattle.mmt_casting.proofs.Spots.{mpu-here, unit-of}
-use Rattle.mmt_casting.specs.Places.{IsSpot, asset_at, mpu_in, placed_at, unit_in}
+use Rattle.mmt_casting.specs.Places.{IsSpot, asset_at, placed_at}
 use Rattle.mmt_casting.specs.Spans.{unit_by}
 use Rattle.mmt_casting.specs.declared.units.Run.{Run}
 use Rattle.mmt_model.specs.declared.casts.SentUnit.{SentUnit}
@@ -23,7 +23,6 @@ use Rattle.mmt_model.specs.Right.{IsRight, no_asset}
 use Rattle.mmt_model.specs.declared.keys.UnitKey.{UnitKey}
 use Rattle.mmt_model.specs.declared.keys.UnitKey.TheVariants as keys
 use Rattle.mmt_model.specs.declared.programmes.Programme.{Programme}
-use Rattle.mmt_model.specs.declared.programmes.Unit.{Unit as PlannedUnit}
 
 -- the MPU of a spot has few access units, and a timescale
 pub mpu-few : (programme : Programme) → IsRight programme → (s : Spot) → IsSpot programme s → s.asset < length programme.assets → length (placed_at programme s).value.aus ≤ 60

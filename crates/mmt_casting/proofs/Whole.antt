@@ -1,5 +1,5 @@
 -- The first refusal of a programme, from its three parts.
-use Rattle.std.proofs.Common.{◌≡◌, ℕ, length, option_map, is_some, true, false, true≢false, refl, ap, ap₂, sym, ◌∙◌, Option, Some, None}
+use Rattle.std.proofs.Common.{◌≡◌, ℕ, length, option_map, is_some, true, false, true≢false, refl, ap, sym, ◌∙◌, Option, Some, None}
 use Rattle.mmt_cast.specs.Casting.{planned}
 use Rattle.mmt_cast.specs.Placing.{all_mpus}
 use Rattle.mmt_cast.specs.Refusing.{Refusal, first_of, refusal, refusal_of_mpus, refusal_of_packets, refusal_of_signals}

@@ -7,6 +7,7 @@ ghost use Rattle.mmt_cast.specs.Placing.{map_from};
 ghost use Rattle.mmt_cast.specs.Refusing.{refusal_of_signal, refusal_of_signals};
 ghost use Rattle.mmt_cast.specs.Right.{unit_at};
 ghost use Rattle.mmt_cast.specs.Sending.{packet_count, sending_of_signal};
+ghost use Rattle.mmt_casting.specs.Ends.{SignalFits};
 ghost use Rattle.mmt_casting.specs.Places.{IsGroup, IsSpot, sending_at, sendings_from};
 ghost use Rattle.mmt_model.specs.Right.{IsRight};
 
@@ -45,6 +46,7 @@ pub(crate) fn group_packets(programme: &Programme, spot: Spot, group: Group) -> 
 /// How many packets a signalling message has.
 pub(crate) fn message_packets(programme: &Programme, s: u32, signal: &Signal) -> u32
     requires right { IsRight programme.now }
+    requires names { SignalFits programme.now signal.now }
     requires short { refusal_of_signal programme.now s signal.now ≡ None }
     ensures count { result ≡ packet_count programme.now (sending_of_signal programme.now s signal.now) }
     ensures few { result ≤ 65547 }

@@ -3,6 +3,7 @@
 ghost use Rattle.std.specs.Prelude.{◌≡◌, ◌+◌, ◌<◌, ◌≤◌, ◌^◌, ◌++◌, [], None, OnOk};
 ghost use Rattle.mmt_cast.specs.Refusing.{refusal, refusal_of_signal};
 ghost use Rattle.mmt_cast.specs.Sending.{packet_count, sending_of_signal};
+ghost use Rattle.mmt_casting.specs.Ends.{SignalFits};
 ghost use Rattle.mmt_casting.specs.Numbered.{numbered_packets};
 ghost use Rattle.mmt_casting.specs.Spans.{signalling};
 ghost use Rattle.mmt_cast.specs.Readable.{tick_of_signal};
@@ -23,6 +24,7 @@ fn put_message(
     number: u32,
 ) -> Result<(), OutOfMemory>
     requires right { IsRight programme.now }
+    requires names { SignalFits programme.now signal.now }
     requires short { refusal_of_signal programme.now s signal.now ≡ None }
     requires at { tick_of_signal signal.now ≤ 2 ^ 48 }
     requires numbers { number + packet_count programme.now (sending_of_signal programme.now s signal.now) < 2 ^ 32 }

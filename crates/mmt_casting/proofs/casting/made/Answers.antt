@@ -1,4 +1,4 @@
-use Rattle.std.proofs.Common.{◌≡◌, List, length, arith, ap, sym, ◌∙◌}
+use Rattle.std.proofs.Common.{◌≡◌, List, length, arith, ap, ◌∙◌}
 use Rattle.mmt_casting.proofs.Together.{copies-known, packets-back, put-together}
 use Rattle.mmt_model.specs.declared.casts.Sent.{Sent}
 use Rattle.mmt_casting.proofs.casting.made.Goals as goal

@@ -1,4 +1,4 @@
-use Rattle.std.proofs.Common.{◌≡◌, ◌<◌, ◌+◌, List, length, get_or, arith, ap, sym, ◌∙◌}
+use Rattle.std.proofs.Common.{◌+◌, List, length, get_or, arith, ap, ◌∙◌}
 use Rattle.mmt_casting.proofs.Starting.{start-few, start-more}
 use Rattle.mmt_casting.proofs.Together.{all-mpus-counted}
 use Rattle.mmt_model.specs.declared.programmes.Asset.{Asset}

@@ -1,9 +1,10 @@
-use Rattle.std.proofs.Common.{◌≡◌, ◌<◌, ◌≤◌, ◌+◌, List, length, get_or, arith, ap, sym, ◌∙◌}
+use Rattle.std.proofs.Common.{◌≡◌, ◌<◌, List, length, get_or, arith, ap, sym, ◌∙◌}
 use Rattle.mmt_cast.specs.Refusing.{refusal_of_signals}
 use Rattle.mmt_casting.proofs.Announced.{message-numbers, number-first, number-more}
-use Rattle.mmt_casting.proofs.Copied.{copies-done, copies-more, copies-none, names-known}
+use Rattle.mmt_casting.proofs.Copied.{copies-done, copies-more, copies-none}
 use Rattle.mmt_casting.proofs.Counts.{signal-here, signals-later, tables-none}
 use Rattle.mmt_model.specs.declared.programmes.Signal.{Signal}
+use Rattle.mmt_casting.proofs.OwnNames.{signal-fits}
 use Rattle.mmt_casting.proofs.copies.copies_of.Goals as goal
 
 pub loop-s-init : goal.loop-s-init
@@ -12,12 +13,6 @@ loop-s-init c = record {
   number = sym (number-first c.args.programme.now);
   short = ap (refusal_of_signals c.args.programme.now 0) c.as_slice-signals.ensures ∙ tables-none c.args.programme.now c.requires.none;
 }
-
-pub copy_of-requires-clause-known : goal.copy_of-requires-clause-known
-copy_of-requires-clause-known c =
-    let here : c.index-signals-s.result ≡ get_or c.args.programme.now.signals c.loop-s.s c.index-signals-s.result = c.index-signals-s.is ∙ ap (λ xs. get_or xs c.loop-s.s c.index-signals-s.result) c.as_slice-signals.ensures in
-    let l : c.loop-s.s < length c.args.programme.now.signals = omega (arith, c.loop-s-test.true, ap (λ (xs : List Signal). length xs) c.as_slice-signals.ensures) in
-    names-known c.args.programme.now c.requires.right c.loop-s.s c.index-signals-s.result c.index-signals-s.result l here
 
 pub copy_of-requires-clause-short : goal.copy_of-requires-clause-short
 copy_of-requires-clause-short c = signal-here c.args.programme.now c.loop-s.s c.as_slice-signals.result.now c.index-signals-s.result c.loop-s-test.true c.index-signals-s.is c.loop-s.invariant.short
@@ -45,3 +40,9 @@ loop-s-preserved c =
 pub returns : goal.returns
 returns c =
     copies-done c.args.programme.now c.loop-s.s c.loop-s.copies.items (omega (arith, c.loop-s-test.false, ap (λ (xs : List Signal). length xs) c.as_slice-signals.ensures)) c.loop-s.invariant.copies
+
+pub copy_of-requires-clause-names : goal.copy_of-requires-clause-names
+copy_of-requires-clause-names c = signal-fits c.args.programme.now c.requires.right c.loop-s.s c.as_slice-signals.result.now c.index-signals-s.result c.as_slice-signals.ensures c.loop-s-test.true c.index-signals-s.is
+
+pub message_packets-number-requires-clause-names : goal.message_packets-number-requires-clause-names
+message_packets-number-requires-clause-names c = signal-fits c.args.programme.now c.requires.right c.loop-s.s c.as_slice-signals.result.now c.index-signals-s.result c.as_slice-signals.ensures c.loop-s-test.true c.index-signals-s.is

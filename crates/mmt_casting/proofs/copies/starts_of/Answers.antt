@@ -1,8 +1,7 @@
-use Rattle.std.proofs.Common.{◌≡◌, ◌<◌, ◌+◌, List, [], length, get_or, map, arith, ap, sym, ◌∙◌}
+use Rattle.std.proofs.Common.{◌≡◌, ◌+◌, List, [], length, get_or, arith, ap, ◌∙◌}
 use Rattle.mmt_casting.proofs.Adding.{added-more, added-none}
 use Rattle.mmt_casting.proofs.Starting.{start-few, start-more}
-use Rattle.mmt_casting.specs.Spans.{start_of, starts}
-use Rattle.mmt_model.specs.Carrying.{numbers}
+use Rattle.mmt_casting.specs.Spans.{start_of}
 use Rattle.mmt_model.specs.declared.programmes.Asset.{Asset}
 use Rattle.mmt_casting.proofs.copies.starts_of.Goals as goal
 

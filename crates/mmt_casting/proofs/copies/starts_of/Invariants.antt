@@ -1,4 +1,4 @@
-use Rattle.std.proofs.Common.{◌≡◌, ◌≤◌, length, map}
+use Rattle.std.proofs.Common.{◌≡◌, map}
 use Rattle.mmt_casting.specs.Spans.{start_of}
 use Rattle.mmt_model.specs.Carrying.{numbers}
 use Rattle.mmt_casting.proofs.copies.starts_of.Given as goal

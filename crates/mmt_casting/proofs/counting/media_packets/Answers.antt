@@ -1,9 +1,6 @@
-use Rattle.std.proofs.Common.{◌≡◌, ◌<◌, ◌≤◌, ◌+◌, length, arith, ap, sym, ◌∙◌}
-use Rattle.std.proofs.lemmas.List.{length-drop}
-use Rattle.mmt_cast.specs.Placing.{all_units}
-use Rattle.mmt_cast.specs.Right.{unit_at}
+use Rattle.std.proofs.Common.{◌<◌, length, arith, ap}
 use Rattle.mmt_casting.proofs.Sendings.{packets_in, sendings-end, units-counted}
-use Rattle.mmt_casting.proofs.Spots.{group-end, spot-fits, unit-of}
+use Rattle.mmt_casting.proofs.Spots.{group-end}
 use Rattle.mmt_casting.specs.Places.{sendings_from}
 use Rattle.mmt_casting.proofs.counting.media_packets.Goals as goal
 

@@ -1,9 +1,10 @@
-use Rattle.std.proofs.Common.{arith, ap, sym, ◌∙◌}
+use Rattle.std.proofs.Common.{arith, ap, ◌∙◌}
 use Rattle.mmt_cast.specs.Placing.{map_from}
 use Rattle.mmt_cast.specs.Refusing.{refusal_of_signals}
 use Rattle.mmt_cast.specs.Sending.{packet_count, sending_of_signal}
 use Rattle.mmt_casting.proofs.Counts.{signal-here, signals-later}
 use Rattle.mmt_casting.proofs.Sendings.{packets_in, signals-counted, signals-done}
+use Rattle.mmt_casting.proofs.OwnNames.{signal-fits}
 use Rattle.mmt_casting.proofs.counting.signalling_packets.Goals as goal
 
 pub loop-s-init : goal.loop-s-init
@@ -35,3 +36,6 @@ returns-clause-count c =
       signals-done c.args.programme.now c.loop-s.s c.as_slice-signals.result.now c.loop-s-test.false,
       ap (λ xs. packets_in c.args.programme.now (map_from (sending_of_signal c.args.programme.now) 0 xs)) c.as_slice-signals.ensures,
     )
+
+pub message_packets-requires-clause-names : goal.message_packets-requires-clause-names
+message_packets-requires-clause-names c = signal-fits c.args.programme.now c.requires.right c.loop-s.s c.as_slice-signals.result.now c.index-signals-s.result c.as_slice-signals.ensures c.loop-s-test.true c.index-signals-s.is

@@ -1,8 +1,6 @@
 use Rattle.std.proofs.Common.{◌≡◌, ◌∙◌, ◌-◌, arith, ap, sym, List, length, get_or, None}
 use Rattle.mmt_casting.proofs.InTime.{place-here, place-next, time-none, time-some, times_from}
-use Rattle.mmt_casting.specs.Timed.{times_of}
 use Rattle.mmt_model.specs.declared.programmes.Au.{Au}
-use Rattle.mmt_times.specs.Times.{time_at}
 use Rattle.mmt_casting.proofs.due.au_time.Goals as goal
 
 pub loop-i-init : goal.loop-i-init

@@ -1,4 +1,4 @@
-use Rattle.std.proofs.Common.{◌≡◌, ◌∙◌, arith, ap, sym, max}
+use Rattle.std.proofs.Common.{arith, ap, sym, max}
 use Rattle.std.specs.List.{fold}
 use Rattle.mmt_casting.proofs.InTime.{last-end, last-none, last-some, times_from}
 use Rattle.mmt_times.specs.Times.{in_range}

@@ -1,5 +1,5 @@
-use Rattle.std.proofs.Common.{arith, ◌∙◌}
-use Rattle.mmt_casting.proofs.Gathering.{fits-end, fits-no, fits-yes, has-room, room-end, room-no, room-yes}
+use Rattle.std.proofs.Common.{arith}
+use Rattle.mmt_casting.proofs.Gathering.{fits-end, fits-no, fits-yes, room-end, room-no, room-yes}
 use Rattle.mmt_casting.proofs.groups.fitting.Goals as goal
 
 pub returns-then-not-goes_in-clause-count : goal.returns-then-not-goes_in-clause-count

@@ -1,6 +1,5 @@
-use Rattle.std.proofs.Common.{◌≡◌, ◌<◌, ◌≤◌, ◌+◌, length, arith, ap, sym, ◌∙◌}
-use Rattle.mmt_cast.specs.Placing.{all_units}
-use Rattle.mmt_casting.proofs.Counts.{first-none, times-none}
+use Rattle.std.proofs.Common.{◌<◌, length, arith, ap}
+use Rattle.mmt_casting.proofs.Counts.{times-none}
 use Rattle.mmt_casting.proofs.Progress.{number-fits, sent-first, sent-next, sent-packets, sent-units}
 use Rattle.mmt_casting.proofs.Spots.{group-end}
 use Rattle.mmt_casting.specs.declared.units.Run.{Run}

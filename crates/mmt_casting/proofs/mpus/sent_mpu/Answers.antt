@@ -1,4 +1,4 @@
-use Rattle.std.proofs.Common.{◌≡◌, arith, ap, ap₂, ◌∙◌, length, max}
+use Rattle.std.proofs.Common.{arith, ap, ap₂, ◌∙◌, length, max}
 use Rattle.std.specs.List.{fold}
 use Rattle.mmt_casting.proofs.MpusSent.{mpu-made, units-within}
 use Rattle.mmt_casting.proofs.Spots.{mpu-here}

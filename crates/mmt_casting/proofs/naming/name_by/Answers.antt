@@ -1,10 +1,10 @@
-use Rattle.std.proofs.Common.{◌≡◌, ◌<◌, ℕ, List, length, get_or, take, arith, ap, sym, ◌∙◌, subst, ⊎_elim, None, Some}
+use Rattle.std.proofs.Common.{◌≡◌, ◌<◌, ℕ, length, get_or, arith, ap, sym, ◌∙◌, ⊎_elim, None, Some}
 use Rattle.std.proofs.Math.ListN.{length-set}
 use Rattle.std.proofs.lemmas.Bool.{cases_eq}
 use Rattle.std.proofs.lemmas.Grind.{get_or-set_at}
 use Rattle.std.proofs.lemmas.List.{get_or-set_other}
 use Rattle.mmt_cast.proofs.Listing.{each-at}
-use Rattle.mmt_casting.proofs.NamedFrom.{all-members, named-here, named-there, none-member}
+use Rattle.mmt_casting.proofs.NamedFrom.{named-here, named-there, none-member}
 use Rattle.mmt_casting.specs.Named.{named_with}
 use Rattle.mmt_casting.proofs.naming.name_by.Goals as goal
 

@@ -1,4 +1,4 @@
-use Rattle.std.proofs.Common.{◌≡◌, ◌<◌, ◌-◌, ◌+◌, List, drop, length, get_or, arith, ap, ap₂, refl, sym, ◌∙◌, subst, Option, None}
+use Rattle.std.proofs.Common.{◌≡◌, ◌-◌, ◌+◌, List, drop, length, get_or, arith, ap, ap₂, refl, sym, ◌∙◌, subst, Option, None}
 use Rattle.mmt_base.specs.declared.ticks.LongTick.{LongTick}
 use Rattle.mmt_casting.proofs.NamedFrom.{all-named, named-more, none-named, places-in, written-back}
 use Rattle.mmt_casting.specs.Named.{AreNamed, named_with}

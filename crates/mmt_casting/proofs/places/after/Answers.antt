@@ -1,6 +1,6 @@
-use Rattle.std.proofs.Common.{◌≡◌, ◌+◌, length, arith, ap, ◌∙◌, sym, subst}
+use Rattle.std.proofs.Common.{length, arith, ap, ◌∙◌, sym, subst}
 use Rattle.mmt_casting.proofs.Spots.{behind-spot, further-spot, spot-fits}
-use Rattle.mmt_casting.specs.Places.{IsSpot, asset_at, placed_at}
+use Rattle.mmt_casting.specs.Places.{IsSpot}
 use Rattle.mmt_model.specs.declared.programmes.Mpu.{Mpu}
 use Rattle.mmt_model.specs.declared.programmes.Asset.{Asset}
 use Rattle.mmt_casting.proofs.places.after.Goals as goal

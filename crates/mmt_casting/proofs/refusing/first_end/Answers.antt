@@ -10,9 +10,6 @@ mpus_end-times-requires c = programme-fits c.args.programme.now c.requires
 pub returns-then-is_some : goal.returns-then-is_some
 returns-then-is_some c = end-by-times c.args.programme.now c.mpus_end-times.result c.mpus_end-times.ensures c.if-is_some.ensures
 
-pub tables_end-tables-requires-clause-fits : goal.tables_end-tables-requires-clause-fits
-tables_end-tables-requires-clause-fits c = programme-fits c.args.programme.now c.requires
-
 pub returns-then-is_some-2 : goal.returns-then-is_some-2
 returns-then-is_some-2 c = end-by-tables c.args.programme.now c.mpus_end-times.result c.tables_end-tables.result c.mpus_end-times.ensures c.if-is_some.ensures c.tables_end-tables.ensures c.if-is_some-2.ensures
 

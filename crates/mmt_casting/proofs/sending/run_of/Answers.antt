@@ -1,5 +1,4 @@
 use Rattle.std.proofs.Common.{◌+◌, ◌*◌, ◌-◌, arith, ap, refl}
-use Rattle.mmt_base.specs.declared.ticks.LongTick.{LongTick}
 use Rattle.mmt_cast.proofs.FromRight.{ticks-fit}
 use Rattle.mmt_casting.proofs.Grouped.{count-some, product-fits, run-is}
 use Rattle.mmt_casting.proofs.Spots.{unit-of}

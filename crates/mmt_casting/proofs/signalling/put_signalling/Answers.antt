@@ -1,8 +1,9 @@
-use Rattle.std.proofs.Common.{◌≡◌, ◌<◌, ◌≤◌, ◌+◌, List, length, get_or, arith, ap, sym, ◌∙◌}
+use Rattle.std.proofs.Common.{◌≡◌, ◌<◌, List, length, get_or, arith, ap, sym, ◌∙◌}
 use Rattle.mmt_cast.specs.Refusing.{refusal_of_signals}
 use Rattle.mmt_casting.proofs.Announced.{message-numbers, number-first, number-more, packets-done, packets-first, packets-next}
 use Rattle.mmt_casting.proofs.Counts.{signal-here, signals-later, tables-none}
 use Rattle.mmt_model.specs.declared.programmes.Signal.{Signal}
+use Rattle.mmt_casting.proofs.OwnNames.{signal-fits}
 use Rattle.mmt_casting.proofs.signalling.put_signalling.Goals as goal
 
 pub loop-s-init : goal.loop-s-init
@@ -43,3 +44,9 @@ loop-s-preserved c =
 pub returns : goal.returns
 returns c =
     packets-done c.args.programme.now c.loop-s.s c.loop-s.out.items (omega (arith, c.loop-s-test.false, ap (λ (xs : List Signal). length xs) c.as_slice-signals.ensures)) c.loop-s.invariant.packets
+
+pub put_message-requires-clause-names : goal.put_message-requires-clause-names
+put_message-requires-clause-names c = signal-fits c.args.programme.now c.requires.right c.loop-s.s c.as_slice-signals.result.now c.index-signals-s.result c.as_slice-signals.ensures c.loop-s-test.true c.index-signals-s.is
+
+pub message_packets-number-requires-clause-names : goal.message_packets-number-requires-clause-names
+message_packets-number-requires-clause-names c = signal-fits c.args.programme.now c.requires.right c.loop-s.s c.as_slice-signals.result.now c.index-signals-s.result c.as_slice-signals.ensures c.loop-s-test.true c.index-signals-s.is

@@ -1,6 +1,6 @@
-use Rattle.std.proofs.Common.{◌≡◌, ap, ap₂, sym, subst, ◌∙◌, arith, length}
+use Rattle.std.proofs.Common.{ap, ap₂, sym, subst, ◌∙◌, arith, length}
 use Rattle.mmt_casting.proofs.UnitTimes.{item-time, mpu-few, mpu-timed, scale-some, timed-time}
-use Rattle.mmt_casting.specs.Places.{asset_at, placed_at}
+use Rattle.mmt_casting.specs.Places.{placed_at}
 use Rattle.mmt_casting.specs.Timed.{IsTimed, sample_time}
 use Rattle.mmt_model.specs.declared.programmes.Asset.{Asset}
 use Rattle.mmt_model.specs.declared.programmes.Mpu.{Mpu}

@@ -1,4 +1,4 @@
-use Rattle.std.proofs.Common.{◌≡◌, List, length, drop, cond, arith, ap, ap₂, ◌∙◌, sym}
+use Rattle.std.proofs.Common.{◌≡◌, List, length, drop, cond, arith, ap, ◌∙◌}
 use Rattle.mmt_casting.proofs.Spots.{group-is, spot-fits}
 use Rattle.mmt_casting.specs.Places.{bytes_of, placed_at, size_of}
 use Rattle.mmt_model.specs.declared.programmes.Asset.{Asset}
