@@ -6,3 +6,6 @@ mod muxing;
 
 pub use ends::MuxEnd;
 pub use muxing::mux;
+
+#[cfg(test)]
+mod tests;
