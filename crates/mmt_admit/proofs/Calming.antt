@@ -1,12 +1,12 @@
 -- In a stretch of ticks no more MPUs are live at a tick than may be live in all of it.
-use Rattle.std.proofs.Common.{◌≡◌, ℕ, ◌+◌, ◌<◌, ◌≤◌, Bool, true, false, ◌&&◌, nat_le, nat_lt, cond, List, [], ◌∷◌, arith, refl, ap, sym, ◌∙◌, subst, Option, Some, None}
+use Rattle.std.proofs.Common.{◌≡◌, ℕ, ◌<◌, ◌≤◌, Bool, true, false, ◌&&◌, nat_le, nat_lt, cond, List, [], ◌∷◌, arith, refl, ap, sym, subst, Option, Some, None}
 use Rattle.std.specs.List.{count_by}
 use Rattle.std.proofs.lemmas.Bool.{and_from, and_parts, le-leb, leb-true, lt-ltb, ltb-true, true≢false}
 use Rattle.std.proofs.lemmas.List.Sums.{sum_by-cons}
 use Rattle.mmt_admit.specs.Calm.{IsCalm, live_between}
 use Rattle.mmt_admit.specs.declared.live.Calm.{Calm}
 use Rattle.mmt_base.specs.declared.ticks.LongTick.{LongTick}
-use Rattle.mmt_model.specs.Admission.{Fault, fault_of_live, is_named_by, live_at, unless}
+use Rattle.mmt_model.specs.Admission.{fault_of_live, is_named_by, live_at, unless}
 use Rattle.mmt_model.specs.Carrying.{table_copy}
 use Rattle.mmt_model.specs.declared.casts.Cast.{Cast}
 use Rattle.mmt_model.specs.declared.casts.SentMpu.{SentMpu}

@@ -1,4 +1,4 @@
-use Rattle.std.proofs.Common.{refl, arith, sym}
+use Rattle.std.proofs.Common.{refl, arith}
 use Rattle.mmt_admit.specs.declared.live.Calm.{Calm}
 use Rattle.mmt_admit.proofs.Calming.{copy-calm, stretch-calm, tick-calm}
 use Rattle.mmt_admit.proofs.live.calm_at.Goals as goal
