@@ -63,68 +63,46 @@ fn sends_the_worked_plan(rt: HostRuntime) -> Result<(), Fail> {
     Ok(())
 }
 
-// A change of the plan, the length of its file, and the text of the status.
-const AGAINST: [(&str, &str, usize, &str); 11] = [
-    (
-        "\"bound\"",
-        "\"bounds\"",
-        3500,
-        "plan: missing at top 0 0 0 field 8",
-    ),
-    ("hev1", "hev", 3500, "plan: value at asset 0 0 0 field 3"),
-    (
-        "[[0,0]]",
-        "[[0,1]]",
-        3500,
-        "plan: no-such-mpu at signal 1 0 0 field 3",
-    ),
-    (
-        "v.bin",
-        "w.bin",
-        3500,
-        "plan: file-absent at asset 0 0 0 field 6",
-    ),
-    ("", "", 3499, "plan: unit-short at unit 0 0 1 field 3"),
-    (
-        "65536,",
-        "32567,",
-        3500,
-        "not admitted: A4 0 65568768 65568767",
-    ),
-    (
-        "65536,",
-        "32568,",
-        3500,
-        "not admitted: A4 1 65570955 65568868",
-    ),
-    ("4000", "3688", 3500, "not admitted: A6 5 3689 3688"),
-    (
-        "{\"at\":0,\"kind\":\"parameters\"},",
-        "",
-        3500,
-        "not admitted: A9 0 5 0",
-    ),
-    ("\"at\":300", "\"at\":205", 3500, "not admitted: A3 3 3 1"),
-    (
-        "4297114779648",
-        "0",
-        3500,
-        "plan: time-range at au 0 0 0 field 0",
-    ),
-];
+// What is told of the plan where this change is made, with a file of so many bytes. Nothing is written.
+fn told(alloc: Global, change: (&str, &str), length: usize) -> Result<String, Fail> {
+    let words = words(alloc, &["mux", "plan.json"])?;
+    let mut shelf = shelf(alloc, change, length, &[])?;
+    let mut port = port(alloc, &[])?;
+    let status = run(alloc, &words, &mut port, &mut shelf);
+    if !port.written().is_empty() {
+        return Err("written")?;
+    }
+    Ok(format!(in alloc; "{status}")?)
+}
+
+// Changes of the plan, and the text of the status.
+const AGAINST: &str = r#""bound" => "bounds" @ plan: missing at top 0 0 0 field 8
+hev1 => hev @ plan: value at asset 0 0 0 field 3
+[[0,0]] => [[0,1]] @ plan: no-such-mpu at signal 1 0 0 field 3
+v.bin => w.bin @ plan: file-absent at asset 0 0 0 field 6
+65536, => 32567, @ not admitted: A4 0 65568768 65568767
+65536, => 32568, @ not admitted: A4 1 65570955 65568868
+4000 => 3688 @ not admitted: A6 5 3689 3688
+{"at":0,"kind":"parameters"}, =>  @ not admitted: A9 0 5 0
+"at":300 => "at":205 @ not admitted: A3 3 3 1
+4297114779648 => 18446744073709551615 @ plan: time-range at au 0 0 1 field 0"#;
 
 #[test]
 fn tells_the_first_reason_and_writes_nothing(rt: HostRuntime) -> Result<(), Fail> {
     let alloc = rt.alloc();
-    let words = words(alloc, &["mux", "plan.json"])?;
-    for (old, new, length, text) in AGAINST {
-        let mut shelf = shelf(alloc, (old, new), length, &[])?;
-        let mut port = port(alloc, &[])?;
-        let status = run(alloc, &words, &mut port, &mut shelf);
-        let told = format!(in alloc; "{status}")?;
-        assert_eq!(rt; told.as_str(), text);
-        assert_eq!(rt; port.written().len(), 0, "{text}");
+    for row in AGAINST.lines() {
+        let (change, want) = row.split_once(" @ ").ok_or("no row")?;
+        let change = change.split_once(" => ").ok_or("no change")?;
+        let got = told(alloc, change, 3500)?;
+        assert_eq!(rt; got.as_str(), want);
     }
+    Ok(())
+}
+
+#[test]
+fn tells_a_file_that_is_a_byte_short(rt: HostRuntime) -> Result<(), Fail> {
+    let got = told(rt.alloc(), ("", ""), 3499)?;
+    assert_eq!(rt; got.as_str(), "plan: unit-short at unit 0 0 1 field 3");
     Ok(())
 }
 
