@@ -195,7 +195,7 @@ const OF_A_LONG_UNIT: &str = "\
 0-99 200 101-199 100 201-281 @ 3 @ units 1 bytes 16777216 peak 16783473";
 
 // The first bytes of the plans' file, of which the one at p is p modulo 251.
-fn file(alloc: Global) -> Result<Vec<u8>, AllocError> {
+pub fn file(alloc: Global) -> Result<Vec<u8>, AllocError> {
     let mut out = Vec::new(alloc);
     for place in 0..60_251u32 {
         out.push((place % 251) as u8)?;
@@ -284,7 +284,10 @@ fn part(alloc: Global, file: &[u8], k: u32) -> Result<Vec<u8>, Fail> {
     let is_full = place % 3 == 0;
     let mut out = Vec::new(alloc);
     out.extend_from_slice(&[0x7f, 3])?;
-    add_two(&mut out, length.saturating_add(if is_full { 79 } else { 37 }))?;
+    add_two(
+        &mut out,
+        length.saturating_add(if is_full { 79 } else { 37 }),
+    )?;
     out.extend_from_slice(&[0, 0x10u8.saturating_add((place % 16) as u8)])?;
     if is_full {
         add_hex(&mut out, FULL_HEADER)?;
@@ -292,10 +295,20 @@ fn part(alloc: Global, file: &[u8], k: u32) -> Result<Vec<u8>, Fail> {
         out.push(0x61)?;
     }
     out.extend_from_slice(&[if k == 0 { 1 } else { 0 }, 0, 1, 0])?;
-    out.extend_from_slice(&k.saturating_mul(10).saturating_add(65_536_200).to_be_bytes())?;
+    out.extend_from_slice(
+        &k.saturating_mul(10)
+            .saturating_add(65_536_200)
+            .to_be_bytes(),
+    )?;
     out.extend_from_slice(&k.to_be_bytes())?;
     add_two(&mut out, length.saturating_add(20))?;
-    out.push(if k == 0 { 0x2a } else if k == 279 { 0x2e } else { 0x2c })?;
+    out.push(if k == 0 {
+        0x2a
+    } else if k == 279 {
+        0x2e
+    } else {
+        0x2c
+    })?;
     out.push(279u32.saturating_sub(k).min(255) as u8)?;
     add_hex(&mut out, "000000070000000100000001000000000000")?;
     add_file(&mut out, file, u64::from(from), u64::from(length))?;
@@ -303,7 +316,7 @@ fn part(alloc: Global, file: &[u8], k: u32) -> Result<Vec<u8>, Fail> {
 }
 
 // The packets of a plan with one unit of 16,777,216 bytes.
-fn long_unit(alloc: Global, file: &[u8]) -> Result<Vec<Vec<u8>>, Fail> {
+pub fn long_unit(alloc: Global, file: &[u8]) -> Result<Vec<Vec<u8>>, Fail> {
     let mut packets = packets(alloc, file, &[LONG_UNIT_MESSAGES])?;
     for k in 0..280 {
         packets.push(part(alloc, file, k)?)?;
@@ -312,7 +325,7 @@ fn long_unit(alloc: Global, file: &[u8]) -> Result<Vec<Vec<u8>>, Fail> {
 }
 
 // The bytes of a delivery: the packets at these places, where `2-4` are 2, 3 and 4.
-fn delivered(alloc: Global, packets: &[Vec<u8>], places: &str) -> Result<Vec<u8>, Fail> {
+pub fn delivered(alloc: Global, packets: &[Vec<u8>], places: &str) -> Result<Vec<u8>, Fail> {
     let mut out = Vec::new(alloc);
     for word in places.split(" ") {
         let (first, last) = word.split_once("-").unwrap_or((word, word));
@@ -353,7 +366,11 @@ fn records(alloc: Global, file: &[u8], units: &str) -> Result<Vec<u8>, Fail> {
     }
     for word in units.split(" ") {
         let unit = number(Some(word))?;
-        add_record(&mut out, file, UNITS.lines().nth(unit as usize).ok_or("no unit")?)?;
+        add_record(
+            &mut out,
+            file,
+            UNITS.lines().nth(unit as usize).ok_or("no unit")?,
+        )?;
     }
     Ok(out)
 }
@@ -415,7 +432,10 @@ fn gives_back_what_is_expected_of_the_worked_plan(rt: HostRuntime) -> Result<(),
 fn gives_back_what_is_expected_with_one_more_table(rt: HostRuntime) -> Result<(), Fail> {
     let file = file(rt.alloc())?;
     let packets = packets(rt.alloc(), &file, &[PACKETS, ONE_MORE_TABLE])?;
-    assert_eq!(rt; wrong_row(rt.alloc(), &file, &packets, WITH_ONE_MORE_TABLE)?, "");
+    assert_eq!(rt;
+        wrong_row(rt.alloc(), &file, &packets, WITH_ONE_MORE_TABLE)?,
+        ""
+    );
     Ok(())
 }
 
