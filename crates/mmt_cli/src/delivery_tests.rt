@@ -195,7 +195,7 @@ const OF_A_LONG_UNIT: &str = "\
 0-99 200 101-199 100 201-281 @ 3 @ units 1 bytes 16777216 peak 16783473";
 
 // The first bytes of the plans' file, of which the one at p is p modulo 251.
-fn file(alloc: Global) -> Result<Vec<u8>, AllocError> {
+pub fn file(alloc: Global) -> Result<Vec<u8>, AllocError> {
     let mut out = Vec::new(alloc);
     for place in 0..60_251u32 {
         out.push((place % 251) as u8)?;
@@ -316,7 +316,7 @@ fn part(alloc: Global, file: &[u8], k: u32) -> Result<Vec<u8>, Fail> {
 }
 
 // The packets of a plan with one unit of 16,777,216 bytes.
-fn long_unit(alloc: Global, file: &[u8]) -> Result<Vec<Vec<u8>>, Fail> {
+pub fn long_unit(alloc: Global, file: &[u8]) -> Result<Vec<Vec<u8>>, Fail> {
     let mut packets = packets(alloc, file, &[LONG_UNIT_MESSAGES])?;
     for k in 0..280 {
         packets.push(part(alloc, file, k)?)?;
@@ -325,7 +325,7 @@ fn long_unit(alloc: Global, file: &[u8]) -> Result<Vec<Vec<u8>>, Fail> {
 }
 
 // The bytes of a delivery: the packets at these places, where `2-4` are 2, 3 and 4.
-fn delivered(alloc: Global, packets: &[Vec<u8>], places: &str) -> Result<Vec<u8>, Fail> {
+pub fn delivered(alloc: Global, packets: &[Vec<u8>], places: &str) -> Result<Vec<u8>, Fail> {
     let mut out = Vec::new(alloc);
     for word in places.split(" ") {
         let (first, last) = word.split_once("-").unwrap_or((word, word));
