@@ -1,14 +1,13 @@
 //! The table copies.
 
-ghost use Rattle.std.specs.Prelude.{◌≡◌, ◌≤◌, ◌^◌, ◌++◌, map, length, None, OnOk, IfOk};
+ghost use Rattle.std.specs.Prelude.{◌≡◌, ◌≤◌, ◌^◌, ◌++◌, map, None, OnOk, IfOk};
 ghost use Rattle.std.specs.List.{AllByRecursion};
 ghost use Rattle.mmt_cast.specs.Casting.{copies_as_sent, place_of_mpu};
 ghost use Rattle.mmt_cast.specs.Placing.{all_mpus};
 ghost use Rattle.mmt_cast.specs.Readable.{tick_of_signal};
 ghost use Rattle.mmt_cast.specs.Refusing.{refusal, refusal_of_signal};
-ghost use Rattle.mmt_cast.specs.Sending.{sending_of_signal};
 ghost use Rattle.mmt_casting.specs.Ends.{SignalFits};
-ghost use Rattle.mmt_casting.specs.Spans.{copies_by, listed, run_by, starts as starts_by};
+ghost use Rattle.mmt_casting.specs.Spans.{copies_at, listed, starts as starts_by};
 ghost use Rattle.mmt_model.specs.Right.{IsKnown, IsRight};
 
 use crate::counting::message_packets;
@@ -80,7 +79,7 @@ fn copy_of(
     requires names { SignalFits programme.now signal.now }
     requires short { refusal_of_signal programme.now turn.signal signal.now ≡ None }
     requires at { tick_of_signal signal.now ≤ 2 ^ 48 }
-    ensures { IfOk result (λ copy. listed copy ≡ copies_by programme.now turn.signal (run_by programme.now (sending_of_signal programme.now turn.signal signal.now) turn.number) signal.now) }
+    ensures { IfOk result (λ copy. listed copy ≡ copies_at programme.now turn.signal turn.number signal.now) }
 {
     match signal {
         Signal::Parameters { .. } => Ok(None),
