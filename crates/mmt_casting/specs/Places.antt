@@ -52,6 +52,10 @@ spot_behind s mpus u =
     then record { asset = s.asset; mpu = s.mpu + 1; unit = 0; mpu_place = s.mpu_place + 1; unit_place = u }
     else record { asset = s.asset + 1; mpu = 0; unit = 0; mpu_place = s.mpu_place + 1; unit_place = u }
 
+-- a spot is at the first unit of the MPU after that of another
+abbrev pub BeginsNext : Spot → Spot → Type 0
+BeginsNext s next = (next.unit ≡ 0) × (next.mpu_place ≡ s.mpu_place + 1)
+
 -- ---- groups
 
 -- how many units a unit of a programme begins a group of

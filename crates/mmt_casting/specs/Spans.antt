@@ -58,6 +58,10 @@ copies_by programme s run (signals.Parameters at) = []
 copies_by programme s run (signals.Table at names) =
     record { signal = s; names = map (place_of_mpu (all_mpus programme)) names; first = run.first; last = run.last; first_number = run.first_number; count = run.count } ∷ []
 
+-- the same, of the packets from a number on
+abbrev pub copies_at : Programme → ℕ → ℕ → Signal → List TableCopy
+copies_at programme s number signal = copies_by programme s (run_by programme (sending_of_signal programme s signal) number) signal
+
 -- how many MPUs the assets before one have
 abbrev pub start_of : Programme → ℕ → ℕ
 start_of programme a = sum_by (λ x. length x.mpus) (take a programme.assets)

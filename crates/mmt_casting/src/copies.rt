@@ -1,14 +1,13 @@
 //! The table copies.
 
-ghost use Rattle.std.specs.Prelude.{◌≡◌, ◌≤◌, ◌^◌, ◌++◌, map, length, None, OnOk, IfOk};
+ghost use Rattle.std.specs.Prelude.{◌≡◌, ◌≤◌, ◌^◌, ◌++◌, map, None, OnOk, IfOk};
 ghost use Rattle.std.specs.List.{AllByRecursion};
 ghost use Rattle.mmt_cast.specs.Casting.{copies_as_sent, place_of_mpu};
 ghost use Rattle.mmt_cast.specs.Placing.{all_mpus};
 ghost use Rattle.mmt_cast.specs.Readable.{tick_of_signal};
 ghost use Rattle.mmt_cast.specs.Refusing.{refusal, refusal_of_signal};
-ghost use Rattle.mmt_cast.specs.Sending.{sending_of_signal};
 ghost use Rattle.mmt_casting.specs.Ends.{SignalFits};
-ghost use Rattle.mmt_casting.specs.Spans.{copies_by, listed, run_by, starts as starts_by};
+ghost use Rattle.mmt_casting.specs.Spans.{copies_at, listed, starts as starts_by};
 ghost use Rattle.mmt_model.specs.Right.{IsKnown, IsRight};
 
 use crate::counting::message_packets;
@@ -18,7 +17,7 @@ use std::alloc::Global;
 
 /// A signalling message of a programme, and the number of its first packet.
 #[derive(Clone, Copy, Debug)]
-struct Turn {
+struct MessagePlace {
     signal: u32,
     number: u32,
 }
@@ -72,27 +71,27 @@ fn copy_of(
     alloc: Global,
     programme: &Programme,
     starts: &[u32],
-    turn: Turn,
+    place: MessagePlace,
     signal: &Signal,
 ) -> Result<Option<TableCopy>, OutOfMemory>
     requires right { IsRight programme.now }
     requires starts { starts.now ≡ starts_by programme.now }
     requires names { SignalFits programme.now signal.now }
-    requires short { refusal_of_signal programme.now turn.signal signal.now ≡ None }
+    requires short { refusal_of_signal programme.now place.signal signal.now ≡ None }
     requires at { tick_of_signal signal.now ≤ 2 ^ 48 }
-    ensures { IfOk result (λ copy. listed copy ≡ copies_by programme.now turn.signal (run_by programme.now (sending_of_signal programme.now turn.signal signal.now) turn.number) signal.now) }
+    ensures { IfOk result (λ copy. listed copy ≡ copies_at programme.now place.signal place.number signal.now) }
 {
     match signal {
         Signal::Parameters { .. } => Ok(None),
         Signal::Table { at, names } => {
-            let count = message_packets(programme, turn.signal, signal);
+            let count = message_packets(programme, place.signal, signal);
             let names = places_of(alloc, programme, starts, names.as_slice())?;
             Ok(Some(TableCopy {
-                signal: turn.signal,
+                signal: place.signal,
                 names,
                 first: *at,
                 last: LongTick(at.0 + (count - 1) as u64 * programme.spacing as u64),
-                first_number: turn.number,
+                first_number: place.number,
                 count,
             }))
         }
@@ -121,11 +120,11 @@ pub(crate) fn copies_of(alloc: Global, programme: &Programme) -> Result<Vec<Tabl
     let mut number = 0u32;
     for s in 0..signals.len() {
         let signal = &signals[s];
-        let turn = Turn {
+        let place = MessagePlace {
             signal: s as u32,
             number,
         };
-        let copy = copy_of(alloc, programme, starts.as_slice(), turn, signal)?;
+        let copy = copy_of(alloc, programme, starts.as_slice(), place, signal)?;
         put_copy(&mut copies, copy)?;
         number += message_packets(programme, s as u32, signal);
     }

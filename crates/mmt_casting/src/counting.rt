@@ -1,6 +1,6 @@
 //! How many packets a programme has.
 
-ghost use Rattle.std.specs.Prelude.{◌≡◌, ◌≤◌, ◌<◌, ◌^◌, length, map, None};
+ghost use Rattle.std.specs.Prelude.{◌≡◌, ◌≤◌, ◌<◌, ◌^◌, length, None};
 ghost use Rattle.std.specs.List.{sum_by};
 ghost use Rattle.mmt_cast.specs.Casting.{planned};
 ghost use Rattle.mmt_cast.specs.Placing.{map_from};

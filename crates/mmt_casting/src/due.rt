@@ -1,8 +1,7 @@
 //! The times of an MPU's units.
 
-ghost use Rattle.std.specs.Prelude.{◌≡◌, ◌≤◌, ◌<◌, length, get_or};
+ghost use Rattle.std.specs.Prelude.{◌≡◌, ◌≤◌, ◌<◌, length, get_or, max as greater};
 ghost use Rattle.std.specs.List.{fold};
-ghost use Rattle.std.specs.Prelude.{max as greater};
 ghost use Rattle.mmt_casting.specs.Timed.{IsTimed, sample_time as time_by, times_of};
 ghost use Rattle.mmt_times.specs.Times.{in_range};
 

@@ -1,7 +1,7 @@
 //! Each reason why there is no cast, and what just has one.
 
 use crate::refusing::first_end;
-use crate::samples::{P1, changed, end_told, programme_of};
+use crate::samples::{P1, changed, end_told, programme_of, told};
 use std::alloc::Global;
 use std::test::Fail;
 
@@ -96,5 +96,18 @@ fn a_cast_has_at_most_16777216_packets(rt: HostRuntime) -> Result<(), Fail> {
         refused(rt.alloc(), many.as_str())?.as_str(),
         "packets 16777217"
     );
+    Ok(())
+}
+
+#[test]
+fn a_time_is_refused_before_the_number_of_packets(rt: HostRuntime) -> Result<(), Fail> {
+    let many = with_units(rt.alloc(), 262_141 * 64 + 1)?;
+    assert_eq!(rt;
+        told(rt.alloc(), many.as_str())?.as_str(),
+        "packets 16777217"
+    );
+    let change = "4297114779648 => 18446744073566242874";
+    let late = changed(rt.alloc(), many.as_str(), change)?;
+    assert_eq!(rt; told(rt.alloc(), late.as_str())?.as_str(), "time 0 0 1");
     Ok(())
 }

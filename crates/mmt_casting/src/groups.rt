@@ -1,6 +1,6 @@
 //! Which units go into one payload.
 
-ghost use Rattle.std.specs.Prelude.{◌≡◌, ◌+◌, ◌-◌, ◌<◌, ◌≤◌, ◌^◌, length, drop, if◌then◌else◌};
+ghost use Rattle.std.specs.Prelude.{◌≡◌, ◌<◌, ◌≤◌, ◌^◌, length, drop};
 ghost use Rattle.mmt_casting.specs.Places.{bytes_of, fits, goes_in as goes, room_left, size_of};
 
 use mmt_base::LongTick;

@@ -1,12 +1,9 @@
 //! The packets and the units of all assets.
 
-ghost use Rattle.std.specs.Prelude.{◌≡◌, ◌+◌, ◌<◌, ◌^◌, [], None, OnOk, length};
+ghost use Rattle.std.specs.Prelude.{◌≡◌, [], None, OnOk};
 ghost use Rattle.mmt_cast.specs.Casting.{cast_of, planned};
 ghost use Rattle.mmt_cast.specs.Refusing.{refusal};
-ghost use Rattle.mmt_cast.specs.Sending.{packet_count};
-ghost use Rattle.mmt_casting.specs.Numbered.{numbered_packets};
-ghost use Rattle.mmt_casting.specs.Places.{IsGroup, IsSpot, sending_at};
-ghost use Rattle.mmt_casting.specs.Spans.{next_number as number_next, run_by, signalling, units_by};
+ghost use Rattle.mmt_casting.specs.Spans.{next_number as number_next, signalling};
 ghost use Rattle.mmt_model.specs.Right.{IsRight};
 
 use crate::places::{Spot, after};

@@ -4,7 +4,7 @@ ghost use Rattle.std.specs.Prelude.{◌≡◌, ◌+◌, ◌≤◌, ◌<◌, ◌^
 ghost use Rattle.mmt_frag.specs.Cuts.{parts as parts_of};
 ghost use Rattle.mmt_cast.specs.Sending.{Sending};
 ghost use Rattle.mmt_model.specs.declared.programmes.Programme.{Programme};
-ghost use Rattle.mmt_casting.specs.Numbered.{numbered_packet, numbered_packets};
+ghost use Rattle.mmt_casting.specs.Numbered.{numbered_packet, numbered_packets, table_of};
 
 use mmt_base::{LongTick, OutOfMemory};
 use mmt_frag::{part_of, parts};
@@ -44,7 +44,7 @@ fn table_packet(programme: &Programme, message: Message, k: u32) -> Sent
     requires at { message.at ≤ 2 ^ 48 }
     requires place { k < parts_of message.bytes programme.now.limit }
     requires numbers { message.number + parts_of message.bytes programme.now.limit < 2 ^ 32 }
-    ensures { result ≡ numbered_packet programme.now (Sending.Table message.signal message.at message.bytes) message.number k }
+    ensures { result ≡ numbered_packet programme.now (table_of message) message.number k }
 {
     let part = part_of(message.bytes, programme.limit, k);
     let carries = if parts(message.bytes, programme.limit) == 1 {
@@ -78,7 +78,7 @@ pub(crate) fn put_table(
     requires spacing { programme.now.spacing < 2 ^ 16 }
     requires at { message.at ≤ 2 ^ 48 }
     requires numbers { message.number + parts_of message.bytes programme.now.limit < 2 ^ 32 }
-    ensures { OnOk result (out.new.items ≡ out.old.items ++ numbered_packets programme.now (Sending.Table message.signal message.at message.bytes) message.number) }
+    ensures { OnOk result (out.new.items ≡ out.old.items ++ numbered_packets programme.now (table_of message) message.number) }
 {
     for k in 0..parts(message.bytes, programme.limit) {
         out.push(table_packet(programme, message, k))?;

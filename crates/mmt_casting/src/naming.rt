@@ -1,6 +1,6 @@
 //! From when each MPU is named.
 
-ghost use Rattle.std.specs.Prelude.{◌≡◌, ◌≤◌, ◌<◌, ◌^◌, ℕ, length, get_or, replicate, None, IfOk};
+ghost use Rattle.std.specs.Prelude.{◌≡◌, ◌<◌, ℕ, length, get_or, replicate, None, IfOk};
 ghost use Rattle.std.specs.List.{AllByRecursion};
 ghost use Rattle.mmt_casting.specs.Named.{AreNamed, NamesPlaces, named_with};
 ghost use Rattle.mmt_model.specs.Carrying.{least_with, tick_of};

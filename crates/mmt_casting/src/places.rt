@@ -1,5 +1,12 @@
 //! Where a walk over the units of a programme stands.
 
+ghost use Rattle.std.specs.Prelude.{◌≡◌, ◌+◌, ◌<◌, ◌≤◌, ◌^◌, length};
+ghost use Rattle.mmt_casting.specs.Places.{BeginsNext, IsSpot, asset_at, placed_at, spot_behind};
+ghost use Rattle.mmt_model.specs.Right.{IsRight};
+ghost use Rattle.mmt_model.specs.declared.programmes.Programme.{Programme};
+
+use mmt_model::{Asset, Mpu, Programme};
+
 /// A unit: the places of its asset, of its MPU there and of itself there, and the places of its MPU and
 /// of itself among all. Behind the last unit the asset is behind the last.
 #[derive(Clone, Copy, Debug)]
@@ -10,13 +17,6 @@ pub(crate) struct Spot {
     pub mpu_place: u32,
     pub unit_place: u32,
 }
-
-ghost use Rattle.std.specs.Prelude.{◌≡◌, ◌+◌, ◌<◌, ◌≤◌, ◌^◌, length};
-ghost use Rattle.mmt_casting.specs.Places.{IsSpot, asset_at, placed_at, spot_behind};
-ghost use Rattle.mmt_model.specs.Right.{IsRight};
-ghost use Rattle.mmt_model.specs.declared.programmes.Programme.{Programme};
-
-use mmt_model::{Asset, Mpu, Programme};
 
 impl Spot {
     /// The first unit of a programme.
@@ -63,7 +63,7 @@ pub(crate) fn after(programme: &Programme, spot: Spot, size: u32) -> Spot
     ensures place { result.unit_place ≡ spot.unit_place + size }
     ensures low { spot.asset ≤ result.asset }
     ensures high { result.asset ≤ spot.asset + 1 }
-    ensures whole { spot.unit + size ≡ length (placed_at programme.now spot).value.units → (result.unit ≡ 0) × (result.mpu_place ≡ spot.mpu_place + 1) }
+    ensures whole { spot.unit + size ≡ length (placed_at programme.now spot).value.units → BeginsNext spot result }
 {
     let mpus = asset_of(programme, spot).mpus.len();
     let units = mpu_of(programme, spot).units.len();

@@ -1,6 +1,6 @@
 //! The first access unit whose time is out of range.
 
-ghost use Rattle.std.specs.Prelude.{◌≡◌, ◌≤◌, ◌<◌, ◌^◌, length, map, option_map};
+ghost use Rattle.std.specs.Prelude.{◌≡◌, ◌≤◌, length, map, option_map};
 ghost use Rattle.mmt_cast.specs.Placing.{all_mpus, mpus_of};
 ghost use Rattle.mmt_cast.specs.Refusing.{out_of_range, refusal_of_mpus};
 ghost use Rattle.mmt_casting.specs.Ends.{end_of, AssetFits, ProgrammeFits};

@@ -1,8 +1,8 @@
 //! The packets of a group.
 
-ghost use Rattle.std.specs.Prelude.{◌≡◌, ◌+◌, ◌<◌, ◌≤◌, ◌^◌, ◌++◌, length, OnOk};
+ghost use Rattle.std.specs.Prelude.{◌≡◌, ◌+◌, ◌<◌, ◌^◌, ◌++◌, length, OnOk};
 ghost use Rattle.mmt_cast.specs.Sending.{packet_count};
-ghost use Rattle.mmt_casting.specs.Numbered.{numbered_packet, numbered_packets};
+ghost use Rattle.mmt_casting.specs.Numbered.{numbered_packet, packets_of_unit};
 ghost use Rattle.mmt_casting.specs.Places.{IsGroup, IsSpot, sending_at};
 ghost use Rattle.mmt_casting.specs.Spans.{run_by};
 ghost use Rattle.mmt_model.specs.Right.{IsRight};
@@ -50,7 +50,7 @@ pub(crate) fn put_group(
     requires inside { spot.asset < length programme.now.assets }
     requires group { IsGroup programme.now spot group }
     requires numbers { number + packet_count programme.now (sending_at programme.now spot.unit_place) < 2 ^ 32 }
-    ensures { OnOk result (out.new.items ≡ out.old.items ++ numbered_packets programme.now (sending_at programme.now spot.unit_place) number) }
+    ensures { OnOk result (out.new.items ≡ out.old.items ++ packets_of_unit programme.now spot.unit_place number) }
 {
     if 1 < group.size {
         out.push(group_packet(programme, spot, group, number))?;

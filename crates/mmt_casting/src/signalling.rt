@@ -4,7 +4,7 @@ ghost use Rattle.std.specs.Prelude.{◌≡◌, ◌+◌, ◌<◌, ◌≤◌, ◌^
 ghost use Rattle.mmt_cast.specs.Refusing.{refusal, refusal_of_signal};
 ghost use Rattle.mmt_cast.specs.Sending.{packet_count, sending_of_signal};
 ghost use Rattle.mmt_casting.specs.Ends.{SignalFits};
-ghost use Rattle.mmt_casting.specs.Numbered.{numbered_packets};
+ghost use Rattle.mmt_casting.specs.Numbered.{packets_of_signal};
 ghost use Rattle.mmt_casting.specs.Spans.{signalling};
 ghost use Rattle.mmt_cast.specs.Readable.{tick_of_signal};
 ghost use Rattle.mmt_model.specs.Right.{IsRight};
@@ -28,7 +28,7 @@ fn put_message(
     requires short { refusal_of_signal programme.now s signal.now ≡ None }
     requires at { tick_of_signal signal.now ≤ 2 ^ 48 }
     requires numbers { number + packet_count programme.now (sending_of_signal programme.now s signal.now) < 2 ^ 32 }
-    ensures { OnOk result (out.new.items ≡ out.old.items ++ numbered_packets programme.now (sending_of_signal programme.now s signal.now) number) }
+    ensures { OnOk result (out.new.items ≡ out.old.items ++ packets_of_signal programme.now s signal.now number) }
 {
     match signal {
         Signal::Parameters { at } => {

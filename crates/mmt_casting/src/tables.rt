@@ -2,10 +2,13 @@
 
 ghost use Rattle.std.specs.Prelude.{◌≡◌, ◌+◌, ◌*◌, ◌≤◌, ◌<◌, ◌^◌, drop, length, option_map};
 ghost use Rattle.std.specs.Int.{div_ceil};
-ghost use Rattle.mmt_casting.specs.Ends.{NamesFit, ProgrammeFits, SignalFits, extended_of_mpu, own_count, part_bytes};
-ghost use Rattle.mmt_cast.specs.Tables.{table_length as length_of_table};
+ghost use Rattle.mmt_casting.specs.Ends.{NamesFit, ProgrammeFits, SignalFits, extended_of_mpu, own_count, part_bytes, end_of};
+ghost use Rattle.mmt_cast.specs.Tables.{table_length as length_of_table, table_message_length};
+ghost use Rattle.mmt_cast.specs.Refusing.{refusal_of_signals, refusal_of_signal};
+ghost use Rattle.mmt_model.specs.Right.{IsRight};
 
-use mmt_model::{Asset, Mpu, Programme};
+use crate::ends::CastEnd;
+use mmt_model::{Asset, Mpu, Programme, Signal};
 
 /// How many bytes an MPU's extended timestamp descriptor has.
 fn extended_length(mpu: &Mpu) -> u64
@@ -81,13 +84,6 @@ pub(crate) fn table_length(programme: &Programme, listed: &[(u32, u32)]) -> u64
     9 + programme.package.len() as u64 + sum
 }
 
-ghost use Rattle.mmt_casting.specs.Ends.{end_of};
-ghost use Rattle.mmt_cast.specs.Refusing.{refusal_of_signals};
-ghost use Rattle.mmt_model.specs.Right.{IsRight};
-
-use crate::ends::CastEnd;
-use mmt_model::Signal;
-
 /// The refusal of a table that is too long.
 fn table_end(programme: &Programme, s: u32, signal: &Signal) -> Option<CastEnd>
     requires fits { ProgrammeFits programme.now }
@@ -106,8 +102,6 @@ fn table_end(programme: &Programme, s: u32, signal: &Signal) -> Option<CastEnd>
     }
 }
 
-ghost use Rattle.mmt_cast.specs.Refusing.{refusal_of_signal};
-
 /// The first refusal of a programme's tables.
 pub(crate) fn tables_end(programme: &Programme) -> Option<CastEnd>
     requires { IsRight programme.now }
@@ -122,8 +116,6 @@ pub(crate) fn tables_end(programme: &Programme) -> Option<CastEnd>
     }
     None
 }
-
-ghost use Rattle.mmt_cast.specs.Tables.{table_message_length};
 
 /// How many bytes the message with a table has.
 #[tactic(auto, unfolding(mmt_cast::specs::Tables::table_message_length))]

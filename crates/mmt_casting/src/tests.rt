@@ -52,10 +52,10 @@ fn an_mpu_is_named_from_its_first_table(rt: HostRuntime) -> Result<(), Fail> {
     Ok(())
 }
 
-// A second table that is sent before the first, and one limit of 100 bytes: the first MPU has two short units
-// of the later sample first, a cut one between, and one that is too long to be gathered with the last two; a
-// second MPU has one of the same tick. A second asset of items, whose third is of the same tick and does not
-// fit with the first two.
+// A limit of 100 bytes, and a second table that is sent before the first. Of the first MPU two short units are
+// gathered, the one of the later sample first; a cut one follows, and two short ones of different ticks. The
+// next MPU has a short unit of the last tick, which is not gathered with that of the MPU before it. A second
+// asset has three items of one tick, the third of which does not go into the payload of the first two.
 const PLAN_M: &str = r#""limit":1400 => "limit":100
  && [[0,0]]} => [[0,0],[0,1],[1,0]]},{"at":50,"kind":"table","names":[[1,0]]}
  && {"at":200,"from":0,"length":3000,"movie_fragment":1,"sample":1 => {"at":300,"from":0,"length":20,"movie_fragment":1,"sample":2,"offset":0,"priority":0,"dependency":0},{"at":300,"from":20,"length":30,"movie_fragment":1,"sample":1,"offset":0,"priority":0,"dependency":0},{"at":300,"from":50,"length":250,"movie_fragment":1,"sample":3

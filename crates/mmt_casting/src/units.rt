@@ -1,7 +1,7 @@
 //! The units that are sent.
 
 ghost use Rattle.std.specs.Prelude.{◌≡◌, ◌+◌, ◌<◌, ◌≤◌, ◌++◌, length, None, OnOk};
-ghost use Rattle.mmt_cast.specs.Casting.{due_of_placed, time_of_unit};
+ghost use Rattle.mmt_cast.specs.Casting.{time_of_unit};
 ghost use Rattle.mmt_cast.specs.Placing.{all_mpus};
 ghost use Rattle.mmt_cast.specs.Refusing.{refusal_of_mpus};
 ghost use Rattle.mmt_cast.specs.Right.{unit_at};

@@ -1,6 +1,6 @@
 //! The group that the unit of a spot begins.
 
-ghost use Rattle.std.specs.Prelude.{◌≡◌, ◌<◌, length};
+ghost use Rattle.std.specs.Prelude.{◌<◌, length};
 ghost use Rattle.mmt_casting.specs.Places.{IsGroup, IsSpot};
 ghost use Rattle.mmt_model.specs.Right.{IsRight};
 
