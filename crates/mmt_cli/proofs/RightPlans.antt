@@ -22,7 +22,6 @@ use Rattle.mmt_plan.proofs.FlowTexts.{range_of}
 use Rattle.mmt_plan.proofs.FourCharacters.{four}
 use Rattle.mmt_plan.proofs.Gives.{Gives, Has, after, skip, there}
 use Rattle.mmt_plan.proofs.Nodes.{read_nodes}
-use Rattle.mmt_plan.proofs.RightFiles.{more_right}
 use Rattle.mmt_plan.proofs.Rising.{rising}
 use Rattle.mmt_plan.specs.Alone.{IsAlone, IsAssetAlone, IsFew, IsRightSending, IsSignalAlone}
 use Rattle.mmt_plan.specs.Assets.{asset_at, asset_keys, asset_of, is_printed, kind_at, kind_in}
@@ -85,6 +84,10 @@ known Q f (Err e) h = tt
 picked : {A : Type 0} (P : A → Type 0) (b : Bool) (x : A) (e : Refusal) → (b ≡ true → P x) → Gives P (if b then Ok x else Err e)
 picked P true x e h = h refl
 picked P false x e h = tt
+
+unless : {A : Type 0} (P : A → Type 0) (b : Bool) (x : A) (e : Refusal) → (b ≡ false → P x) → Gives P (if b then Err e else Ok x)
+unless P true x e h = tt
+unless P false x e h = h refl
 
 -- ---- the members of an object
 
@@ -238,10 +241,10 @@ kind_has (a ∷ b ∷ []) = tt
 kind_has (a ∷ b ∷ c ∷ []) = tt
 kind_has (a ∷ b ∷ c ∷ d ∷ []) =
     chosen IsKind (is_printed a && is_printed b && is_printed c && is_printed d) (a * 16777216 + b * 65536 + c * 256 + d) (λ t.
-    let p = and_parts (is_printed a) (is_printed b && is_printed c && is_printed d) t in
-    let q = and_parts (is_printed b) (is_printed c && is_printed d) p.1 in
-    let r = and_parts (is_printed c) (is_printed d) q.1 in
-    four a b c d p.0 q.0 r.0 r.1)
+    let r = and_parts (is_printed a && is_printed b && is_printed c) (is_printed d) t in
+    let q = and_parts (is_printed a && is_printed b) (is_printed c) r.0 in
+    let p = and_parts (is_printed a) (is_printed b) q.0 in
+    four a b c d p.0 p.1 q.1 r.1)
 kind_has (a ∷ b ∷ c ∷ d ∷ e ∷ more) = tt
 
 kind_gives : (s : Spot) (d : Data) → Gives IsKind (kind_at s d)
@@ -281,12 +284,31 @@ asset_gives s files d =
       more = kept file files;
     })))))))))
 
+-- it is so with more files
+more_files : (start n m : ℕ) (a : Asset) → n ≤ m → IsAssetAlone start n a → IsAssetAlone start m a
+more_files start n m a le alone = record {
+  mpus = alone.mpus;
+  right = λ numbers. let r : IsRightAsset start n a = alone.right numbers in record {
+    id_some = r.id_some;
+    id = r.id;
+    packet_id_some = r.packet_id_some;
+    packet_id = r.packet_id;
+    kind = r.kind;
+    timescale_some = r.timescale_some;
+    timescale = r.timescale;
+    file = omega (arith, r.file, le);
+    some = r.some;
+    mpus = r.mpus;
+    numbers = r.numbers;
+  };
+}
+
 -- so are assets, each by the names of files behind it
-record AreAssetsRead (start : ℕ) (files : List (List ℕ)) (count : ℕ) (x : List Asset × List (List ℕ)) : Type 0 where
+record AreAssetsRead (start : ℕ) (files : List (List ℕ)) (many : ℕ) (x : List Asset × List (List ℕ)) : Type 0 where
   alone : All (IsAssetAlone start (length x.1)) x.0
   names : All IsFileName files → All IsFileName x.1
   more : length files ≤ length x.1
-  count : length x.0 ≡ count
+  count : length x.0 ≡ many
 
 module _ (s : Spot) where
   with_first : (files : List (List ℕ)) (n : ℕ) (d : Data) (ds : Items) → each_with (asset_at s) files n (item d ds) ≡ (asset_at s files n d >>= λ (x : Asset × List (List ℕ)). each_with (asset_at s) x.1 (n + 1) ds >>= λ (xs : List Asset × List (List ℕ)). Ok (x.0 ∷ xs.0, xs.1))
@@ -299,8 +321,7 @@ module _ (s : Spot) where
 
   joined : (files : List (List ℕ)) (count : ℕ) (x : Asset × List (List ℕ)) (xs : List Asset × List (List ℕ)) → IsAssetRead s.start files x → AreAssetsRead s.start x.1 count xs → AreAssetsRead s.start files (suc count) (x.0 ∷ xs.0, xs.1)
   joined files count x xs one all = record {
-    alone = All-cons (IsAssetAlone s.start (length xs.1)) x.0 xs.0
-        (All-head (IsAssetAlone s.start (length xs.1)) x.0 [] (more_right s.start (length x.1) (length xs.1) [] x.0 all.more (All-nil (IsAssetAlone s.start (length x.1))) one.alone)) all.alone;
+    alone = All-cons (IsAssetAlone s.start (length xs.1)) x.0 xs.0 (more_files s.start (length x.1) (length xs.1) x.0 all.more one.alone) all.alone;
     names = λ h. all.names (one.names h);
     more = omega (arith, one.more, all.more);
     count = ap suc all.count;
@@ -432,11 +453,7 @@ bytes_give bytes short =
 short_bytes : (seen : Option (List ℕ)) → Gives (λ (bytes : List ℕ). length bytes ≤ 16777216) (bytes_of seen)
 unfolding bytes_of
 short_bytes None = tt
-short_bytes (Some bytes) = by (nat_lt 16777216 (length bytes)) refl
-  where
-    by : (b : Bool) → nat_lt 16777216 (length bytes) ≡ b → Gives (λ (xs : List ℕ). length xs ≤ 16777216) (if b then Err _ else Ok bytes)
-    by true e = tt
-    by false e = grind (arith, nat_tests)
+short_bytes (Some bytes) = unless (λ (xs : List ℕ). length xs ≤ 16777216) (nat_lt 16777216 (length bytes)) bytes _ (λ e. grind (arith, nat_tests))
 
 plan_gives : (seen : Option (List ℕ)) → Gives IsRight (plan seen)
 unfolding plan

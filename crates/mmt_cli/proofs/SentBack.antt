@@ -1,7 +1,7 @@
 -- What is sent is a programme that can be sent, and `take` gives it back.
 use Rattle.std.proofs.Common.{◌≡◌, ◌⊎◌, ◌≤◌, inl, inr, ℕ, ◌+◌, true, nat_le, List, ◌++◌, length, Option, Some, None, Result, Ok, Err, refl, ap, sym, subst, ◌∙◌}
 use Rattle.std.proofs.lemmas.Bool.{leb-true}
-use Rattle.std.proofs.lemmas.List.{append-cancel-left}
+use Rattle.std.proofs.lemmas.List.{append_cancel_left}
 use Rattle.std.proofs.lemmas.List.Elements.{All-from_recursion, All-weaker}
 use Rattle.std.specs.List.{All}
 use Rattle.mmt_cast.specs.Casting.{cast_of}
@@ -116,7 +116,7 @@ given_all_back can law file name config limit outcome before after old new run =
     let sent : HasSent file name before.history after.history = done_sent file name run.muxed.end before.history after.history run.muxed.told run.muxed.answer run.muxed.sent in
     let p : Programme = sent.programme in
     let files : ℕ → List ℕ = files_on file p in
-    let same : run.events ≡ sent.events = append-cancel-left before.history run.events sent.events (sym run.sent ∙ sent.history) in
+    let same : run.events ≡ sent.events = append_cancel_left before.history run.events sent.events (sym run.sent ∙ sent.history) in
     let input : old.left ≡ joined (stream p files) = run.input ∙ ap bytes_written same ∙ sent.written in
     (p, sent.is, λ hears.
     let does = subst (λ (l : List ℕ). Does (taking config) limit run.taken.end old.history new.history l new.left old.reads new.reads old.writes new.writes) input run.taken.does in
