@@ -24,7 +24,7 @@ use Rattle.mmt_cli.specs.declared.status.Status.TheVariants as status
 abbrev pub SentProgrammesAreSendable : Type 0
 SentProgrammesAreSendable = (file : List ℕ → Option (List ℕ)) (name : List ℕ) (programme : Programme) → sendable file name ≡ Ok programme → IsSendable programme (files_on file programme)
 
--- so `take` gives back what is expected of each near delivery of it, by the clause `gives_back`
+-- so each near delivery of it, and a receiver that hears it, meet the premises of the clause `gives_back`
 abbrev pub SentProgrammesAreReached : Type 0
 SentProgrammesAreReached =
     (file : List ℕ → Option (List ℕ)) (name : List ℕ) (programme : Programme) (config : Config) (delivery : List ℕ) → sendable file name ≡ Ok programme → Receives config programme
@@ -46,7 +46,7 @@ pub record GaveAllBack (programme : Programme) (files : ℕ → List ℕ) (limit
   pub writing : IsPrefix (bytes_written events) (records (all_presented programme files))
   pub done : length old.left ≤ limit → HasNoFault old new → (outcome ≡ status.Done) ⊎ (outcome ≡ status.OutOfMemory)
 
--- so it is of the programme of the plan, where the receiver hears it
+-- so `take` gave back the programme of the plan, where the receiver hears it
 abbrev pub TakeGivesBackWhatMuxSent : Type 0
 TakeGivesBackWhatMuxSent =
     (file : List ℕ → Option (List ℕ)) (name : List ℕ) (config : Config) (limit : ℕ) (outcome : Status) (before after old new : Moment) → MuxThenTake file name config limit outcome before after old new
