@@ -23,7 +23,7 @@ use Rattle.mmt_cli.specs.declared.status.Status.TheVariants as status
 
 -- ---- which end of a stream a status is that of
 
-done_end : (e : StreamEnd) → status_of e ≡ status.Done → e ≡ end.Done
+pub done_end : (e : StreamEnd) → status_of e ≡ status.Done → e ≡ end.Done
 done_end end.Done is = refl
 done_end end.ReadFault is = absurd cc
 done_end end.WriteFault is = absurd cc
@@ -31,7 +31,7 @@ done_end (end.Broken kind place) is = absurd cc
 done_end end.OutOfMemory is = absurd cc
 done_end end.TooLong is = absurd cc
 
-status_done : (e : StreamEnd) → (e ≡ end.Done) ⊎ (e ≡ end.OutOfMemory) → (status_of e ≡ status.Done) ⊎ (status_of e ≡ status.OutOfMemory)
+pub status_done : (e : StreamEnd) → (e ≡ end.Done) ⊎ (e ≡ end.OutOfMemory) → (status_of e ≡ status.Done) ⊎ (status_of e ≡ status.OutOfMemory)
 status_done e (inl is) = inl (ap status_of is)
 status_done e (inr is) = inr (ap status_of is)
 

@@ -5,5 +5,6 @@ pub mod Moments
 pub mod Muxing
 pub mod Peaks
 pub mod Promise
+pub mod SentBack
 pub mod Statuses
 pub mod Takes

@@ -16,6 +16,7 @@ mod peak_tests;
 #[cfg(test)]
 mod piece_tests;
 mod run;
+mod sent_back;
 mod status;
 mod take;
 #[cfg(test)]

@@ -3,6 +3,7 @@
 use crate::delivery_tests::{delivered, file, long_unit};
 use crate::run::run;
 use crate::status::Status;
+use crate::take_tests::{Units, Wanted, takes};
 use crate::tests::words;
 use crate::worked::{LENGTH, stream};
 use mmt_io::{CallKind, FailAt, MemoryPort, MemoryShelf};
@@ -66,6 +67,23 @@ fn sends_the_worked_plan(rt: HostRuntime) -> Result<(), Fail> {
     let worked = stream(alloc)?;
     assert_eq!(rt; port.written(), worked.as_slice());
     assert_eq!(rt; port.noted().len(), 0);
+    Ok(())
+}
+
+#[test]
+fn take_gives_back_what_was_sent(rt: HostRuntime) -> Result<(), Fail> {
+    let alloc = rt.alloc();
+    let mut shelf = shelf(alloc, ("", ""), 3500, &[])?;
+    let mut port = port(alloc, &[])?;
+    let words = words(alloc, &["mux", "plan.json"])?;
+    assert_eq!(rt; run(alloc, &words, &mut port, &mut shelf), Status::Done);
+    let sent = Vec::from_slice(alloc, port.written())?;
+    let wanted = Wanted {
+        status: Status::Done,
+        units: Units::Both,
+        notes: "units 2 bytes 3500 peak 3689\n",
+    };
+    assert!(rt; takes(alloc, &["take"], sent, wanted)?);
     Ok(())
 }
 

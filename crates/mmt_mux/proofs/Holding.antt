@@ -37,7 +37,7 @@ passes true why e = refl
 passes false why e = absurd cc
 
 -- a file has the bytes of a unit
-abbrev IsHeldIn : Option (List ℕ) → PlannedUnit → Type 0
+abbrev pub IsHeldIn : Option (List ℕ) → PlannedUnit → Type 0
 IsHeldIn file u = has_bytes file (u.from + u.length) ≡ true
 
 unit-held : (file : Option (List ℕ)) (s : Spot) (n : ℕ) (u : PlannedUnit) → check_unit file s n u ≡ Ok tt → IsHeldIn file u
@@ -76,7 +76,7 @@ each-flat P Q f h n (x ∷ xs) e = each-append Q (f n x) (flat_map_from f (n + 1
 abbrev MpuHeld : (List ℕ → Option (List ℕ)) → List (List ℕ) → PlacedMpu → Type 0
 MpuHeld file names m = AllByRecursion (IsHeldIn (file_of file names m.in_asset)) m.value.units
 
-abbrev UnitHeld : (List ℕ → Option (List ℕ)) → List (List ℕ) → PlacedUnit → Type 0
+abbrev pub UnitHeld : (List ℕ → Option (List ℕ)) → List (List ℕ) → PlacedUnit → Type 0
 UnitHeld file names x = IsHeldIn (file_of file names x.in_mpu.in_asset) x.value
 
 mpus-in : (file : List ℕ → Option (List ℕ)) (names : List (List ℕ)) (a : ℕ) (asset : Asset) → AssetHeld file names asset → AllByRecursion (MpuHeld file names) (mpus_of a asset)
@@ -87,7 +87,7 @@ units-in : (file : List ℕ → Option (List ℕ)) (names : List (List ℕ)) (m 
 unfolding units_of
 units-in file names m x h = each-mapped (IsHeldIn (file_of file names x.in_asset)) (UnitHeld file names) (λ c unit. record { mpu_place = m; in_mpu = x; unit = c; value = unit }) (λ c unit u. u) 0 x.value.units h
 
-units-held : (file : List ℕ → Option (List ℕ)) (p : Programme) → files_of file p ≡ Ok tt → AllByRecursion (UnitHeld file p.files) (all_units p)
+pub units-held : (file : List ℕ → Option (List ℕ)) (p : Programme) → files_of file p ≡ Ok tt → AllByRecursion (UnitHeld file p.files) (all_units p)
 unfolding all_units all_mpus
 units-held file p e =
     each-flat (MpuHeld file p.files) (UnitHeld file p.files) units_of (units-in file p.files) 0 (all_mpus p)
