@@ -1,13 +1,16 @@
 //! The stream of the worked plan, and where it ends.
 
-ghost use Rattle.std.specs.Prelude.{IfOk};
+ghost use Rattle.std.specs.Prelude.{◌≡◌, None, IfOk, OnOk};
+ghost use Rattle.mmt_admit.specs.Faults.{IsReadable};
+ghost use Rattle.mmt_cast.specs.Casting.{cast_of as cast_by};
+ghost use Rattle.mmt_cast.specs.Refusing.{refusal};
 ghost use Rattle.mmt_model.specs.Right.{IsRight};
 
 use crate::{SendEnd, send};
 use mmt_admit::{admit, is_readable};
 use mmt_casting::cast_of;
 use mmt_io::{CallKind, FailAt, MemoryPort, MemoryShelf};
-use mmt_model::Programme;
+use mmt_model::{Cast, Programme};
 use mmt_plan::read_plan;
 use std::alloc::Global;
 use std::test::Fail;
@@ -103,6 +106,35 @@ fn programme_of(alloc: Global, plan: &str) -> Result<Programme, Fail>
     }
 }
 
+// The cast of a programme.
+fn cast_for(alloc: Global, programme: &Programme) -> Result<Cast, Fail>
+    requires { IsRight programme.now }
+    ensures cast { IfOk result (λ cast. cast ≡ cast_by programme.now) }
+    ensures none { OnOk result (refusal programme.now ≡ None) }
+    ensures readable { IfOk result IsReadable }
+{
+    match cast_of(alloc, programme) {
+        Ok(cast) => {
+            if is_readable(&cast) {
+                Ok(cast)
+            } else {
+                Err("not readable")?
+            }
+        }
+        Err(_) => Err("no cast")?,
+    }
+}
+
+// A shelf that perhaps has the file, where these reads fail.
+fn shelf_of(alloc: Global, file: Option<&[u8]>, reads: &[u64]) -> Result<MemoryShelf, Fail> {
+    let mut shelf = MemoryShelf::new(alloc, reads.to_vec(alloc)?);
+    if let Some(bytes) = file {
+        let bytes = bytes.to_vec(alloc)?;
+        shelf.put("v.bin", bytes)?;
+    }
+    Ok(shelf)
+}
+
 // The stream of a plan, with these first bytes of its file, where these reads of it and these writes fail.
 fn sent_of(
     alloc: Global,
@@ -112,24 +144,13 @@ fn sent_of(
     writes: &[FailAt],
 ) -> Result<Outcome, Fail> {
     let programme = programme_of(alloc, plan)?;
-    let cast = match cast_of(alloc, &programme) {
-        Ok(cast) => cast,
-        Err(_) => Err("no cast")?,
-    };
-    if !is_readable(&cast) {
-        Err("not readable")?
-    }
-    let admitted = match admit(&cast) {
-        Ok(admitted) => admitted,
+    let cast = cast_for(alloc, &programme)?;
+    let mut shelf = shelf_of(alloc, file, reads)?;
+    let mut port = MemoryPort::new(alloc, Vec::new(alloc), 16, 8192, writes.to_vec(alloc)?)?;
+    let end = match admit(&cast) {
+        Ok(admitted) => send(alloc, &programme, &admitted, &mut shelf, &mut port),
         Err(_) => Err("not admitted")?,
     };
-    let mut shelf = MemoryShelf::new(alloc, reads.to_vec(alloc)?);
-    if let Some(bytes) = file {
-        let bytes = bytes.to_vec(alloc)?;
-        shelf.put("v.bin", bytes)?;
-    }
-    let mut port = MemoryPort::new(alloc, Vec::new(alloc), 16, 8192, writes.to_vec(alloc)?)?;
-    let end = send(alloc, &programme, &admitted, &mut shelf, &mut port);
     let written = port.written().to_vec(alloc)?;
     Ok(Outcome { end, written })
 }
