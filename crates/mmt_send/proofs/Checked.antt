@@ -1,5 +1,5 @@
 -- Where the files of a programme were found to be long enough, no unit is short.
-use Rattle.std.proofs.Common.{◌≡◌, ℕ, zero, suc, ◌+◌, ◌<◌, ◌≤◌, Bool, true, false, cond, List, [], ◌∷◌, length, take, drop, get_or, Option, Some, None, Result, Ok, Err, arith, refl, sym, ap, subst, ◌∙◌}
+use Rattle.std.proofs.Common.{◌≡◌, ℕ, zero, suc, ◌+◌, ◌<◌, ◌≤◌, Bool, true, false, cond, List, [], ◌∷◌, length, drop, get_or, Option, Some, None, Result, Ok, Err, arith, refl, subst}
 use Rattle.std.proofs.lemmas.Bool.{leb-true}
 use Rattle.std.proofs.lemmas.List.{get_or_default, length-drop, length-take}
 use Rattle.mmt_cast.specs.Placing.{PlacedUnit, all_units}
@@ -14,7 +14,7 @@ use Rattle.mmt_plan.specs.Reading.{◌>>=◌}
 use Rattle.mmt_plan.specs.Wholes.{each_checked}
 use Rattle.mmt_plan.specs.declared.ends.Refusal.{Refusal}
 use Rattle.mmt_plan.specs.declared.spots.Spot.{Spot}
-use Rattle.mmt_send.specs.Files.{IsUnitShort, bytes_in, files_on}
+use Rattle.mmt_send.specs.Files.{bytes_in, files_on}
 use Rattle.mmt_send.specs.Laws.{CheckedFilesAreWhole}
 use Rattle.mmt_send.proofs.Standing.{Stands, no_unit, stands}
 

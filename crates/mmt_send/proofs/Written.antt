@@ -1,5 +1,5 @@
 -- The bytes that the writes of packets write.
-use Rattle.std.proofs.Common.{◌≡◌, ℕ, List, [], ◌∷◌, ◌++◌, flat_map, map, refl, sym, ap, ◌∙◌, append_assoc}
+use Rattle.std.proofs.Common.{◌≡◌, ℕ, List, [], ◌∷◌, ◌++◌, refl, sym, ap, ◌∙◌, append_assoc}
 use Rattle.std.proofs.lemmas.List.{append-nil}
 use Rattle.std.proofs.lemmas.Grind.{flat_map-append}
 use Rattle.mmt_io.specs.History.{Event, bytes_noted, bytes_read, bytes_written}
@@ -7,7 +7,7 @@ use Rattle.mmt_io.specs.History.Event.{In, Note, Out}
 use Rattle.mmt_io.proofs.Passing.{bytes_noted-append, bytes_read-append, bytes_written-append}
 use Rattle.mmt_tlv.specs.Framing.{Packet as Tlv, joined, spelling}
 use Rattle.mmt_send.specs.Laws.{Adds, FrontsAreBytes, StreamsAreBytes}
-use Rattle.mmt_send.specs.Writes.{HasBegun, IsFrontOf, pieces}
+use Rattle.mmt_send.specs.Writes.{IsFrontOf, pieces}
 
 written : (ps : List Tlv) → bytes_written (pieces ps) ≡ joined ps
 written [] = refl
