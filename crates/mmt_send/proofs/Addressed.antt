@@ -1,12 +1,12 @@
 -- How a packet is addressed, and how long its body is.
-use Rattle.std.proofs.Common.{◌≡◌, ℕ, ◌+◌, ◌%◌, ◌<◌, ◌≤◌, Bool, true, false, ◌==◌, cond, List, [], ◌++◌, length, Option, Some, None, arith, refl, sym, ap, subst, ◌∙◌, eq-eqb}
+use Rattle.std.proofs.Common.{◌≡◌, ℕ, ◌+◌, ◌%◌, ◌<◌, ◌≤◌, Bool, true, ◌==◌, cond, List, [], ◌++◌, length, Option, Some, None, arith, refl, sym, ap, subst, ◌∙◌, eq-eqb}
 use Rattle.std.proofs.lemmas.Bool.{ne_eqb}
 use Rattle.std.proofs.lemmas.List.{length-append}
 use Rattle.mmt_fields.proofs.Numbers.{length_big_endian}
 use Rattle.mmt_ip.specs.declared.packet.Ip6Header.{Ip6Header}
 use Rattle.mmt_ip.specs.Spelling.{Value as Datagram, spelling as datagram_spelling}
-use Rattle.mmt_ctx.specs.Spelling.{Value as Compressed, full_header, spelling as compressed_spelling}
-use Rattle.mmt_ctx.specs.Squeezing.{IsAtCall, Squeezing, packet_at}
+use Rattle.mmt_ctx.specs.Spelling.{full_header, spelling as compressed_spelling}
+use Rattle.mmt_ctx.specs.Squeezing.{Squeezing, packet_at}
 use Rattle.mmt_send.specs.Calls.{IsAt}
 use Rattle.mmt_send.specs.declared.addressing.Addresser.{Addresser}
 use Rattle.mmt_tlv.specs.Framing.{Packet as Tlv}
@@ -30,7 +30,6 @@ plain-short out v e l = omega (arith, ap (λ (xs : List ℕ). length xs) e, data
 
 pub squeezed-short : (call : ℕ) (s : Squeezing) (out payload : List ℕ) → out ≡ compressed_spelling (packet_at call s payload) → length payload ≤ 65000 → length out < 65536
 squeezed-short call s out payload e l = omega (arith, ap (λ (xs : List ℕ). length xs) e, compressed-long s.context (call % 16) (cond (call % s.full_every == 0) (Some s.header) None) payload l)
-
 
 pub plain-addressed : (a : Addressing) (call : ℕ) (header : Ip6Header) (payload out : List ℕ) → a.full_every ≡ 0 → header ≡ a.header → out ≡ datagram_spelling (record { header = header; summed = true; payload = payload })
     → addressed a call payload ≡ record { kind = 2; body = out }

@@ -1,12 +1,10 @@
 -- Where all packets have been sent, no unit is short.
-use Rattle.std.proofs.Common.{◌≡◌, ℕ, ◌+◌, ◌-◌, ◌*◌, ◌<◌, ◌≤◌, Bool, true, false, ◌&&◌, ◌==◌, nat_le, nat_lt, min, List, Option, Result, Ok, Err, OnOk, length, take, drop, get_or, arith, refl, sym, ap, subst, ◌∙◌, ⊎_elim, below_more}
-use Rattle.std.proofs.lemmas.Bool.{and_parts, cases_lt, eqb-true, leb-true, ltb-true, true≢false}
+use Rattle.std.proofs.Common.{◌≡◌, ℕ, ◌+◌, ◌-◌, ◌*◌, ◌<◌, ◌≤◌, true, ◌&&◌, ◌==◌, nat_le, nat_lt, min, List, Option, Result, Ok, Err, OnOk, length, take, get_or, arith, sym, ap, subst}
+use Rattle.std.proofs.lemmas.Bool.{and_parts, eqb-true, leb-true, ltb-true, true≢false}
 use Rattle.mmt_cast.specs.Casting.{cast_of}
-use Rattle.mmt_cast.specs.Placing.{PlacedUnit, all_units}
-use Rattle.mmt_cast.specs.Right.{unit_at, unit_bytes}
 use Rattle.mmt_cast.specs.Sending.{Sending, carried, packet_count, packet_of}
 use Rattle.mmt_cast.specs.Casting.{with_number}
-use Rattle.mmt_cast.proofs.Found.{IsFound, found}
+use Rattle.mmt_cast.proofs.Found.{found}
 use Rattle.mmt_cast.proofs.FromRight.{right-programmes-fit}
 use Rattle.mmt_cast.proofs.SentIn.{IsSentIn, sent-in}
 use Rattle.mmt_model.specs.Carrying.{has_part}
@@ -14,11 +12,10 @@ use Rattle.mmt_model.specs.Right.{IsRight}
 use Rattle.mmt_model.specs.Survival.{no_packet}
 use Rattle.mmt_model.specs.declared.casts.Carries.{Carries}
 use Rattle.mmt_model.specs.declared.casts.Carries.TheVariants as carries
-use Rattle.mmt_model.specs.declared.casts.Cast.{Cast}
 use Rattle.mmt_model.specs.declared.casts.Sent.{Sent}
 use Rattle.mmt_model.specs.declared.programmes.Programme.{Programme}
 use Rattle.mmt_model.specs.declared.programmes.Unit as model
-use Rattle.mmt_send.specs.Files.{IsSource, IsUnitShort, bytes_in, bytes_of_unit, files_on}
+use Rattle.mmt_send.specs.Files.{IsSource, bytes_in, bytes_of_unit, files_on}
 use Rattle.mmt_send.specs.Held.{AreHeld, AreWhole, HasPart}
 use Rattle.mmt_send.specs.declared.sources.Source.{Source}
 use Rattle.mmt_send.proofs.FileReads.{source-bytes}

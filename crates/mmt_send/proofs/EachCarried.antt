@@ -8,10 +8,9 @@ use Rattle.std.proofs.lemmas.List.Sums.{sum_by-cons}
 use Rattle.std.specs.List.{AllByRecursion, sum_by}
 use Rattle.mmt_cast.specs.Casting.{cast_of, with_number}
 use Rattle.mmt_cast.specs.Placing.{PlacedMpu, PlacedUnit, all_units}
-use Rattle.mmt_cast.specs.Right.{IsRight as CastIsRightFor, signal_at, unit_at}
+use Rattle.mmt_cast.specs.Right.{signal_at, unit_at}
 use Rattle.mmt_cast.specs.Sending.{Sending, carried, header_length, packet_count, packet_of}
 use Rattle.mmt_cast.proofs.Found.{each-sent}
-use Rattle.mmt_cast.proofs.FromRight.{right-programmes-fit}
 use Rattle.mmt_cast.proofs.Listing.{each-at, each-numbers}
 use Rattle.mmt_cast.proofs.Rightness.{IsGroup as IsGroupOf, IsRightSending}
 use Rattle.mmt_cast.proofs.SentIn.{one-mpu, right-sending}
@@ -24,9 +23,8 @@ use Rattle.mmt_model.specs.declared.casts.Carries.TheVariants as carries
 use Rattle.mmt_model.specs.declared.casts.Cast.{Cast}
 use Rattle.mmt_model.specs.declared.casts.Sent.{Sent}
 use Rattle.mmt_model.specs.declared.programmes.Programme.{Programme}
-use Rattle.mmt_model.specs.declared.programmes.Signal.{Signal}
 use Rattle.mmt_sent.specs.Messages.{is_table}
-use Rattle.mmt_send.specs.Carried.{IsCarried, IsGroup, own_size}
+use Rattle.mmt_send.specs.Carried.{IsCarried, own_size}
 
 -- ---- parts
 

@@ -1,5 +1,5 @@
 -- The payload of a packet by what it carries, from those of its kinds.
-use Rattle.std.proofs.Common.{◌≡◌, false, ℕ, ◌*◌, ◌<◌, ◌≤◌, ◌++◌, List, [], ◌∷◌, length, drop, get_or, arith, refl, ap, subst, ◌∙◌}
+use Rattle.std.proofs.Common.{◌≡◌, false, ℕ, ◌*◌, ◌<◌, ◌≤◌, List, [], ◌∷◌, length, drop, get_or, arith, refl, ap, subst, ◌∙◌}
 use Rattle.std.proofs.lemmas.List.{get_or_default, length-take}
 use Rattle.mmt_cast.specs.Casting.{cast_of}
 use Rattle.mmt_cast.specs.Placing.{all_units}
@@ -12,7 +12,7 @@ use Rattle.mmt_model.specs.declared.casts.Cast.{Cast}
 use Rattle.mmt_model.specs.declared.casts.SentUnit.{SentUnit}
 use Rattle.mmt_model.specs.declared.keys.Part.TheVariants as parts
 use Rattle.mmt_model.specs.declared.programmes.Programme.{Programme}
-use Rattle.mmt_mpu.specs.Spelling.{UnitValue, spelling}
+use Rattle.mmt_mpu.specs.Spelling.{spelling}
 use Rattle.mmt_sent.specs.Payloads.{Message, bytes_of, left, written}
 use Rattle.mmt_sent.specs.Stream.{contents_sent}
 use Rattle.mmt_model.specs.Right.{IsRight}

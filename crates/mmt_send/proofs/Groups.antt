@@ -1,17 +1,15 @@
 -- Several units of one MPU in one payload: what is asked at each, and that the payload is the one of the definitions.
-use Rattle.std.proofs.Common.{◌≡◌, ℕ, zero, suc, ◌+◌, ◌-◌, ◌*◌, ◌<◌, ◌≤◌, ◌^◌, Bool, true, false, cond, fold, IsTrue, Option, List, [], ◌∷◌, ◌++◌, map, length, take, drop, arith, refl, sym, ap, subst, ◌∙◌}
+use Rattle.std.proofs.Common.{◌≡◌, ℕ, zero, suc, ◌+◌, ◌-◌, ◌<◌, ◌≤◌, ◌^◌, Bool, true, false, cond, fold, IsTrue, Option, List, [], ◌∷◌, ◌++◌, map, length, take, drop, arith, refl, sym, ap, subst, ◌∙◌}
 use Rattle.std.proofs.lemmas.List.{length-append, length-drop, length-take, take_all, map-append}
 use Rattle.std.proofs.lemmas.List.Sums.{fold-append, sum_by-append, sum_by-cons}
 use Rattle.std.specs.List.{sum_by}
-use Rattle.mmt_cast.specs.Casting.{cast_of}
 use Rattle.mmt_cast.specs.FromRight.{FitsUnit}
 use Rattle.mmt_cast.proofs.FromRight.{all-counted}
 use Rattle.mmt_cast.specs.Placing.{PlacedMpu, PlacedUnit, all_units}
 use Rattle.mmt_cast.specs.Right.{contents_of, unit_at, unit_bytes}
 use Rattle.mmt_cast.specs.Sending.{header_length}
 use Rattle.mmt_fields.proofs.Numbers.{length_big_endian}
-use Rattle.mmt_model.specs.Carrying.{Contents, entry_of_unit, numbers}
-use Rattle.mmt_model.specs.Packets.{DataUnit}
+use Rattle.mmt_model.specs.Carrying.{entry_of_unit, numbers}
 use Rattle.mmt_model.specs.Right.{IsRight}
 use Rattle.mmt_model.specs.declared.casts.Carries.TheVariants as carries
 use Rattle.mmt_model.specs.declared.casts.Cast.{Cast}

@@ -10,3 +10,5 @@ pub mod Mmtp
 pub mod EachCarried
 pub mod WholeStream
 pub mod AllHeld
+pub mod Written
+pub mod Checked

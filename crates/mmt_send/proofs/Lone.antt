@@ -1,7 +1,7 @@
 -- A part of a unit by itself: what it asks for, how long its payload is, and that the payload is the one of the definitions.
 use Rattle.std.proofs.Common.{◌≡◌, ℕ, ◌+◌, ◌-◌, ◌*◌, ◌<◌, ◌≤◌, ◌^◌, Bool, true, false, min, Option, List, [], ◌∷◌, ◌++◌, length, take, drop, arith, refl, sym, ap, subst, ◌∙◌, ⊎_elim}
 use Rattle.std.proofs.lemmas.Bool.{cases_lt}
-use Rattle.std.proofs.lemmas.List.{append-nil, length-append, length-drop, length-take, take_all, take_at}
+use Rattle.std.proofs.lemmas.List.{length-append, length-drop, length-take, take_all, take_at}
 use Rattle.mmt_cast.specs.Casting.{cast_of}
 use Rattle.mmt_cast.specs.FromRight.{FitsUnit}
 use Rattle.mmt_cast.specs.Placing.{PlacedUnit, all_units, entry_of_mpu}
@@ -12,7 +12,7 @@ use Rattle.mmt_fields.proofs.Numbers.{length_big_endian}
 use Rattle.mmt_frag.specs.Cuts.{part_bytes}
 use Rattle.mmt_frag.specs.Fragments.{IsPlainItem, is_timed, part_payload}
 use Rattle.mmt_frag.specs.declared.cutting.PartOf.{PartOf}
-use Rattle.mmt_model.specs.Carrying.{Contents, entry_of_unit, part_of_unit}
+use Rattle.mmt_model.specs.Carrying.{entry_of_unit}
 use Rattle.mmt_model.specs.Entries.{Entry}
 use Rattle.mmt_model.specs.Right.{IsRight}
 use Rattle.mmt_model.specs.declared.casts.Cast.{Cast}
@@ -21,10 +21,9 @@ use Rattle.mmt_model.specs.declared.keys.UnitKey.{UnitKey}
 use Rattle.mmt_model.specs.declared.keys.UnitKey.TheVariants as keys
 use Rattle.mmt_model.specs.declared.programmes.Programme.{Programme}
 use Rattle.mmt_model.specs.declared.programmes.Unit as model
-use Rattle.mmt_mpu.specs.Spelling.{HeadFits, KeyFits, RanksFit, UnitHead, UnitValue, Value, head_bytes, head_length, lone_bytes, spelling, units_bytes}
-use Rattle.mmt_mpu.specs.declared.types.MpuHead.{MpuHead}
+use Rattle.mmt_mpu.specs.Spelling.{HeadFits, KeyFits, RanksFit, UnitHead, UnitValue, head_bytes, head_length, lone_bytes, spelling, units_bytes}
 use Rattle.mmt_sent.specs.Messages.{message_bytes}
-use Rattle.mmt_sent.specs.Payloads.{as_unit, bytes_of}
+use Rattle.mmt_sent.specs.Payloads.{bytes_of}
 use Rattle.mmt_sent.specs.Stream.{contents_sent}
 use Rattle.mmt_send.specs.Carried.{HasCast, lone_written}
 use Rattle.mmt_send.specs.Files.{IsSource, bytes_in, bytes_of_unit, files_on}

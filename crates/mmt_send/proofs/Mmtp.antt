@@ -1,5 +1,5 @@
 -- How long an MMTP packet of a cast is, and that it is the one at its place.
-use Rattle.std.proofs.Common.{◌≡◌, ℕ, ◌+◌, ◌≤◌, ◌<◌, Bool, List, [], ◌++◌, length, get_or, None, arith, refl, ap, ◌∙◌}
+use Rattle.std.proofs.Common.{◌≡◌, ℕ, ◌+◌, ◌≤◌, Bool, List, [], ◌++◌, length, get_or, None, arith, ap, ◌∙◌}
 use Rattle.std.proofs.lemmas.List.{length-append}
 use Rattle.mmt_fields.proofs.Numbers.{length_big_endian}
 use Rattle.mmt_model.specs.Carrying.{Contents}
@@ -24,8 +24,14 @@ pub made-long : (rap : Bool) (kind : Kind) (packet_id time number : ℕ) (payloa
     → out ≡ old ++ spelling (record { counter = None; rap = rap; reserved = 0; kind = kind; packet_id = packet_id; time = time; number = number; extension = None; payload = payload })
     → length payload ≤ 60022 → length out ≤ 60034
 made-long rap kind packet_id time number payload out old none e l =
-    omega (arith, ap (λ (xs : List ℕ). length xs) e, length-append old (spelling (record { counter = None; rap = rap; reserved = 0; kind = kind; packet_id = packet_id; time = time; number = number; extension = None; payload = payload })),
-      packet-long rap kind packet_id time number payload, ap (λ (xs : List ℕ). length xs) none, l)
+    omega (
+      arith,
+      ap (λ (xs : List ℕ). length xs) e,
+      length-append old (spelling (record { counter = None; rap = rap; reserved = 0; kind = kind; packet_id = packet_id; time = time; number = number; extension = None; payload = payload })),
+      packet-long rap kind packet_id time number payload,
+      ap (λ (xs : List ℕ). length xs) none,
+      l,
+    )
 
 -- the packet at a place
 pub at-place : (cast : Cast) (contents : Contents) (n : ℕ) (p : Sent) → p ≡ get_or cast.packets n no_packet → mmtp_of cast contents p ≡ mmtp_at cast contents n

@@ -1,8 +1,8 @@
 -- A unit of a programme stands at its places: those of its asset, its MPU and itself, which the cast tells.
-use Rattle.std.proofs.Common.{◌≡◌, ℕ, ◌+◌, ◌<◌, List, [], length, get_or, arith, refl, sym, ap, subst, ◌∙◌}
+use Rattle.std.proofs.Common.{◌≡◌, ℕ, ◌+◌, ◌<◌, List, [], length, get_or, arith, sym, ap, subst, ◌∙◌}
 use Rattle.std.proofs.lemmas.List.{get_or_default, get_or_read}
 use Rattle.mmt_cast.specs.Casting.{cast_of, unit_as_sent}
-use Rattle.mmt_cast.specs.Placing.{PlacedMpu, PlacedUnit, all_mpus, all_units, units_of}
+use Rattle.mmt_cast.specs.Placing.{PlacedUnit, all_mpus, all_units, units_of}
 use Rattle.mmt_cast.specs.Right.{mpu_at, no_mpu, no_placed_mpu, unit_at}
 use Rattle.mmt_cast.specs.FromRight.{FitsUnit}
 use Rattle.mmt_cast.proofs.FromRight.{right-programmes-fit}

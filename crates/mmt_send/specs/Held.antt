@@ -1,5 +1,5 @@
 -- The bytes of what packets carry are there (this project's rule).
-use Rattle.std.specs.Prelude.{◌≡◌, ℕ, ◌+◌, ◌*◌, ◌<◌, ◌≤◌, true, min, List, length}
+use Rattle.std.specs.Prelude.{◌≡◌, ℕ, ◌+◌, ◌*◌, ◌≤◌, true, min, List, length}
 use Rattle.mmt_cast.specs.Right.{unit_at, unit_bytes}
 use Rattle.mmt_model.specs.Carrying.{has_part}
 use Rattle.mmt_model.specs.declared.casts.Carries.{Carries}

@@ -4,3 +4,4 @@ pub mod Carried
 pub mod Holding
 pub mod Writes
 pub mod Held
+pub mod Laws

@@ -48,11 +48,7 @@ impl Addresser {
         if programme.full_every == 0 {
             Addresser::Plain(header)
         } else {
-            Addresser::Squeezed(Squeezer::new(
-                programme.context,
-                programme.full_every,
-                header,
-            ))
+            Addresser::Squeezed(Squeezer::new(programme.context, programme.full_every, header))
         }
     }
 
@@ -65,7 +61,8 @@ impl Addresser {
         requires empty { out.old.items ≡ [] }
         ensures label { FitsLabel self.new }
         ensures long { OnOk result (length out.new.items < 65536) }
-        ensures body { IfOk result (λ kind. (a : Addressing) (call : ℕ) → IsAt a call self.old → addressed a call payload.now ≡ record { kind = kind; body = out.new.items }) }
+        ensures body { IfOk result (λ kind. (a : Addressing) (call : ℕ) → IsAt a call self.old → addressed a call payload.now ≡ record
+            { kind = kind; body = out.new.items }) }
         ensures next { OnOk result ((a : Addressing) (call : ℕ) → IsAt a call self.old → IsAt a (call + 1) self.new) }
     {
         match self {
@@ -96,7 +93,8 @@ impl Addresser {
         requires call { HasCall self.old }
         requires short { length made.old.outer.items ≤ 65000 }
         ensures label { FitsLabel self.new }
-        ensures packet { OnOk result ((a : Addressing) (call : ℕ) → IsAt a call self.old → made.new.outer.items ≡ spelling (addressed a call made.old.outer.items)) }
+        ensures packet { OnOk result ((a : Addressing) (call : ℕ) → IsAt a call self.old → made.new.outer.items ≡ spelling
+            (addressed a call made.old.outer.items)) }
         ensures next { OnOk result ((a : Addressing) (call : ℕ) → IsAt a call self.old → IsAt a (call + 1) self.new) }
     {
         made.inner.clear();

@@ -4,6 +4,7 @@
 mod addressing;
 mod ends;
 mod files;
+mod laws;
 mod made;
 mod messages;
 mod packets;
@@ -13,6 +14,7 @@ mod sources;
 mod units;
 
 pub use ends::SendEnd;
+pub use laws::{checked_files_are_whole, what_is_written};
 pub use sending::send;
 
 #[cfg(test)]

@@ -21,8 +21,10 @@ use std::alloc::Global;
 fn earlier_tables(job: &Job<'_>, signal: u32) -> u32
     requires job { HasCast job.now.programme.now job.now.cast.now }
     ensures earlier { result ≡ tables_before job.now.programme.now signal }
-    ensures own { signal < length job.now.programme.now.signals → is_table (signal_at job.now.programme.now signal) ≡ true → copy_place job.now.cast.now.copies signal ≡ result }
-    ensures listed { signal < length job.now.programme.now.signals → is_table (signal_at job.now.programme.now signal) ≡ true → result < length job.now.cast.now.copies }
+    ensures own { signal < length job.now.programme.now.signals →
+        is_table (signal_at job.now.programme.now signal) ≡ true → copy_place job.now.cast.now.copies signal ≡ result }
+    ensures listed { signal < length job.now.programme.now.signals →
+        is_table (signal_at job.now.programme.now signal) ≡ true → result < length job.now.cast.now.copies }
 {
     let copies = job.cast.copies.as_slice();
     let place = copies.partition_point(|copy| copy.signal < signal);
@@ -108,7 +110,9 @@ pub fn put_piece(
     requires kept { Holds job.now.programme.now spelled.old }
     ensures kept { Holds job.now.programme.now spelled.new }
     ensures long { OnOk result (length out.new.items ≤ length out.old.items + 60022) }
-    ensures payload { OnOk result (out.new.items ≡ out.old.items ++ bytes_of (Message piece.now.part piece.now.left (part_bytes job.now.programme.now.limit piece.now.number (message_bytes job.now.programme.now piece.now.signal)))) }
+    ensures payload { OnOk result (out.new.items ≡ out.old.items ++ bytes_of
+        (Message piece.now.part piece.now.left (part_bytes job.now.programme.now.limit piece.now.number
+        (message_bytes job.now.programme.now piece.now.signal)))) }
 {
     spelled.spell(job, piece.signal)?;
     let bytes = part(spelled.bytes.as_slice(), job.programme.limit, piece.number);

@@ -50,11 +50,17 @@ pub fn make_packet<H: Shelf>(
     requires carried { IsCarried job.now.programme.now sent.now.carries }
     requires room { IsRoom job.now.programme.now room.old }
     ensures room { IsRoom job.now.programme.now room.new }
-    ensures shelf { Stays (H.tells shelf.old) (H.tells shelf.new) (H.file shelf.old) (H.file shelf.new) (H.faults shelf.old) (H.faults shelf.new) }
-    ensures cause { IfErr result (λ e. HasCause job.now.programme.now (H.tells shelf.old) (H.file shelf.old) (H.faults shelf.old) (H.faults shelf.new) e) }
+    ensures shelf { Stays (H.tells shelf.old) (H.tells shelf.new) (H.file shelf.old) (H.file shelf.new) (H.faults shelf.old)
+        (H.faults shelf.new) }
+    ensures cause { IfErr result (λ e. HasCause job.now.programme.now (H.tells shelf.old) (H.file shelf.old) (H.faults shelf.old)
+        (H.faults shelf.new) e) }
     ensures long { OnOk result (length made.new.outer.items ≤ 60034) }
-    ensures packet { IsTrue (H.tells shelf.old) → OnOk result (made.new.outer.items ≡ spelling (mmtp_of job.now.cast.now (contents_sent job.now.programme.now (files_on (H.file shelf.old) job.now.programme.now)) sent.now)) }
-    ensures held { IsTrue (H.tells shelf.old) → OnOk result (AreHeld job.now.programme.now (files_on (H.file shelf.old) job.now.programme.now) sent.now.carries) }
+    ensures packet { IsTrue (H.tells shelf.old) →
+        OnOk result (made.new.outer.items ≡ spelling
+        (mmtp_of job.now.cast.now (contents_sent job.now.programme.now (files_on (H.file shelf.old) job.now.programme.now))
+        sent.now)) }
+    ensures held { IsTrue (H.tells shelf.old) →
+        OnOk result (AreHeld job.now.programme.now (files_on (H.file shelf.old) job.now.programme.now) sent.now.carries) }
 {
     made.inner.clear();
     put_payload(job, shelf, sent.carries, room, &mut made.inner)?;

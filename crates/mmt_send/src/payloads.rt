@@ -102,11 +102,17 @@ pub fn put_payload<H: Shelf>(
     requires carried { IsCarried job.now.programme.now carries }
     requires room { IsRoom job.now.programme.now room.old }
     ensures room { IsRoom job.now.programme.now room.new }
-    ensures shelf { Stays (H.tells shelf.old) (H.tells shelf.new) (H.file shelf.old) (H.file shelf.new) (H.faults shelf.old) (H.faults shelf.new) }
-    ensures cause { IfErr result (λ e. HasCause job.now.programme.now (H.tells shelf.old) (H.file shelf.old) (H.faults shelf.old) (H.faults shelf.new) e) }
+    ensures shelf { Stays (H.tells shelf.old) (H.tells shelf.new) (H.file shelf.old) (H.file shelf.new) (H.faults shelf.old)
+        (H.faults shelf.new) }
+    ensures cause { IfErr result (λ e. HasCause job.now.programme.now (H.tells shelf.old) (H.file shelf.old) (H.faults shelf.old)
+        (H.faults shelf.new) e) }
     ensures long { OnOk result (length out.new.items ≤ length out.old.items + 60022) }
-    ensures payload { IsTrue (H.tells shelf.old) → OnOk result (out.new.items ≡ out.old.items ++ bytes_of (written job.now.cast.now (contents_sent job.now.programme.now (files_on (H.file shelf.old) job.now.programme.now)) carries)) }
-    ensures held { IsTrue (H.tells shelf.old) → OnOk result (AreHeld job.now.programme.now (files_on (H.file shelf.old) job.now.programme.now) carries) }
+    ensures payload { IsTrue (H.tells shelf.old) →
+        OnOk result (out.new.items ≡ out.old.items ++ bytes_of
+        (written job.now.cast.now (contents_sent job.now.programme.now (files_on (H.file shelf.old) job.now.programme.now))
+        carries)) }
+    ensures held { IsTrue (H.tells shelf.old) →
+        OnOk result (AreHeld job.now.programme.now (files_on (H.file shelf.old) job.now.programme.now) carries) }
 {
     match carries {
         Carries::Whole { unit } => {
@@ -133,13 +139,9 @@ pub fn put_payload<H: Shelf>(
             put_several(job, shelf, &several, room.file.as_mut_slice(), out)
         }
         Carries::Parameters { signal } => {
-            put_piece(job, &mut room.spelled, &whole(signal), out)?;
-            Ok(())
+            Ok(put_piece(job, &mut room.spelled, &whole(signal), out)?)
         }
-        Carries::Table { signal } => {
-            put_piece(job, &mut room.spelled, &whole(signal), out)?;
-            Ok(())
-        }
+        Carries::Table { signal } => { Ok(put_piece(job, &mut room.spelled, &whole(signal), out)?) }
         Carries::TablePart { signal, number } => {
             let count = parts_of_table(job, signal);
             let piece = Piece {
@@ -148,8 +150,7 @@ pub fn put_payload<H: Shelf>(
                 part: role(number, count),
                 left: left(number, count),
             };
-            put_piece(job, &mut room.spelled, &piece, out)?;
-            Ok(())
+            Ok(put_piece(job, &mut room.spelled, &piece, out)?)
         }
     }
 }

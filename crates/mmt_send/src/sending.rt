@@ -48,20 +48,21 @@ impl Sender {
     }
 
     // Makes the TLV packet at a place of the cast in `made.outer`.
-    fn make<H: Shelf>(
-        &mut self,
-        job: &Job<'_>,
-        shelf: &mut H,
-        place: usize,
-    ) -> Result<(), SendEnd>
+    fn make<H: Shelf>(&mut self, job: &Job<'_>, shelf: &mut H, place: usize) -> Result<(), SendEnd>
         requires job { HasCast job.now.programme.now job.now.cast.now }
         requires place { place < length job.now.cast.now.packets }
         requires ready { IsReady job.now.programme.now place self.old }
-        ensures shelf { Stays (H.tells shelf.old) (H.tells shelf.new) (H.file shelf.old) (H.file shelf.new) (H.faults shelf.old) (H.faults shelf.new) }
-        ensures cause { IfErr result (λ e. HasCause job.now.programme.now (H.tells shelf.old) (H.file shelf.old) (H.faults shelf.old) (H.faults shelf.new) e) }
+        ensures shelf { Stays (H.tells shelf.old) (H.tells shelf.new) (H.file shelf.old) (H.file shelf.new) (H.faults shelf.old)
+            (H.faults shelf.new) }
+        ensures cause { IfErr result (λ e. HasCause job.now.programme.now (H.tells shelf.old) (H.file shelf.old) (H.faults shelf.old)
+            (H.faults shelf.new) e) }
         ensures ready { OnOk result (IsReady job.now.programme.now (place + 1) self.new) }
-        ensures held { IsTrue (H.tells shelf.old) → OnOk result (AreHeld job.now.programme.now (files_on (H.file shelf.old) job.now.programme.now) (get_or job.now.cast.now.packets place no_packet).carries) }
-        ensures packet { IsTrue (H.tells shelf.old) → OnOk result (self.new.made.outer.items ≡ spelling (packet_sent job.now.programme.now (files_on (H.file shelf.old) job.now.programme.now) place)) }
+        ensures held { IsTrue (H.tells shelf.old) →
+            OnOk result (AreHeld job.now.programme.now (files_on (H.file shelf.old) job.now.programme.now)
+            (get_or job.now.cast.now.packets place no_packet).carries) }
+        ensures packet { IsTrue (H.tells shelf.old) →
+            OnOk result (self.new.made.outer.items ≡ spelling
+            (packet_sent job.now.programme.now (files_on (H.file shelf.old) job.now.programme.now) place)) }
     {
         let packets = job.cast.packets.as_slice();
         let sent = packets[place];
@@ -82,12 +83,21 @@ impl Sender {
         requires place { place < length job.now.cast.now.packets }
         requires ready { IsReady job.now.programme.now place self.old }
         ensures ready { OnOk result (IsReady job.now.programme.now (place + 1) self.new) }
-        ensures held { IsTrue (H.tells shelf.old) → OnOk result (AreHeld job.now.programme.now (files_on (H.file shelf.old) job.now.programme.now) (get_or job.now.cast.now.packets place no_packet).carries) }
-        ensures sent { IsTrue (H.tells shelf.old) → IsTrue (P.tells port.old) → OnOk result (P.history port.new ≡ P.history port.old ++ pieces (packet_sent job.now.programme.now (files_on (H.file shelf.old) job.now.programme.now) place ∷ [])) }
-        ensures front { IsTrue (H.tells shelf.old) → IsTrue (P.tells port.old) → OnErr result (AddsFront (P.history port.old) (P.history port.new) (packet_sent job.now.programme.now (files_on (H.file shelf.old) job.now.programme.now) place ∷ [])) }
-        ensures cause { IfErr result (λ e. EndsFor job.now.programme.now (H.tells shelf.old) (H.file shelf.old) (H.faults shelf.old, H.faults shelf.new) (P.write_faults port.old, P.write_faults port.new) e) }
-        ensures shelf { Stays (H.tells shelf.old) (H.tells shelf.new) (H.file shelf.old) (H.file shelf.new) (H.faults shelf.old) (H.faults shelf.new) }
-        ensures port { IsUnread (P.tells port.old) (P.tells port.new) (P.left port.old) (P.left port.new) (P.read_faults port.old) (P.read_faults port.new) (P.write_faults port.old) (P.write_faults port.new) }
+        ensures held { IsTrue (H.tells shelf.old) →
+            OnOk result (AreHeld job.now.programme.now (files_on (H.file shelf.old) job.now.programme.now)
+            (get_or job.now.cast.now.packets place no_packet).carries) }
+        ensures sent { IsTrue (H.tells shelf.old) → IsTrue (P.tells port.old) →
+            OnOk result (P.history port.new ≡ P.history port.old ++ pieces
+            (packet_sent job.now.programme.now (files_on (H.file shelf.old) job.now.programme.now) place ∷ [])) }
+        ensures front { IsTrue (H.tells shelf.old) → IsTrue (P.tells port.old) →
+            OnErr result (AddsFront (P.history port.old) (P.history port.new)
+            (packet_sent job.now.programme.now (files_on (H.file shelf.old) job.now.programme.now) place ∷ [])) }
+        ensures cause { IfErr result (λ e. EndsFor job.now.programme.now (H.tells shelf.old) (H.file shelf.old)
+            (H.faults shelf.old, H.faults shelf.new) (P.write_faults port.old, P.write_faults port.new) e) }
+        ensures shelf { Stays (H.tells shelf.old) (H.tells shelf.new) (H.file shelf.old) (H.file shelf.new) (H.faults shelf.old)
+            (H.faults shelf.new) }
+        ensures port { IsUnread (P.tells port.old) (P.tells port.new) (P.left port.old) (P.left port.new) (P.read_faults port.old)
+            (P.read_faults port.new) (P.write_faults port.old) (P.write_faults port.new) }
     {
         self.make(job, shelf, place)?;
         match port.write(self.made.outer.as_slice()) {
@@ -115,14 +125,21 @@ pub fn send<H: Shelf, P: Port>(
     requires none { refusal programme.now ≡ None }
     requires cast { cast.now ≡ cast_of programme.now }
     // The stream was written, or a prefix of it, and nothing was noted or read; where shelf and port tell what they have.
-    ensures done { IsTrue (H.tells shelf.old) → IsTrue (P.tells port.old) → OnOk result (P.history port.new ≡ P.history port.old ++ pieces (stream programme.now (files_on (H.file shelf.old) programme.now))) }
-    ensures begun { IsTrue (H.tells shelf.old) → IsTrue (P.tells port.old) → OnErr result (HasBegun (P.history port.old) (P.history port.new) (stream programme.now (files_on (H.file shelf.old) programme.now))) }
+    ensures done { IsTrue (H.tells shelf.old) → IsTrue (P.tells port.old) →
+        OnOk result (P.history port.new ≡ P.history port.old ++ pieces
+        (stream programme.now (files_on (H.file shelf.old) programme.now))) }
+    ensures begun { IsTrue (H.tells shelf.old) → IsTrue (P.tells port.old) →
+        OnErr result (HasBegun (P.history port.old) (P.history port.new)
+        (stream programme.now (files_on (H.file shelf.old) programme.now))) }
     // Where it was written, no file ends before a unit of it does.
     ensures whole { IsTrue (H.tells shelf.old) → OnOk result (AreWhole programme.now (files_on (H.file shelf.old) programme.now)) }
     // Why it ended.
-    ensures cause { IfErr result (λ e. EndsFor programme.now (H.tells shelf.old) (H.file shelf.old) (H.faults shelf.old, H.faults shelf.new) (P.write_faults port.old, P.write_faults port.new) e) }
-    ensures shelf { Stays (H.tells shelf.old) (H.tells shelf.new) (H.file shelf.old) (H.file shelf.new) (H.faults shelf.old) (H.faults shelf.new) }
-    ensures port { IsUnread (P.tells port.old) (P.tells port.new) (P.left port.old) (P.left port.new) (P.read_faults port.old) (P.read_faults port.new) (P.write_faults port.old) (P.write_faults port.new) }
+    ensures cause { IfErr result (λ e. EndsFor programme.now (H.tells shelf.old) (H.file shelf.old) (H.faults shelf.old, H.faults shelf.new)
+        (P.write_faults port.old, P.write_faults port.new) e) }
+    ensures shelf { Stays (H.tells shelf.old) (H.tells shelf.new) (H.file shelf.old) (H.file shelf.new) (H.faults shelf.old)
+        (H.faults shelf.new) }
+    ensures port { IsUnread (P.tells port.old) (P.tells port.new) (P.left port.old) (P.left port.new) (P.read_faults port.old)
+        (P.read_faults port.new) (P.write_faults port.old) (P.write_faults port.new) }
 {
     let job = Job {
         programme,

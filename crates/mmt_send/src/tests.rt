@@ -1,13 +1,16 @@
 //! The stream of the worked plan, and where it ends.
 
-ghost use Rattle.std.specs.Prelude.{IfOk};
+ghost use Rattle.std.specs.Prelude.{◌≡◌, None, IfOk, OnOk};
+ghost use Rattle.mmt_admit.specs.Faults.{IsReadable};
+ghost use Rattle.mmt_cast.specs.Casting.{cast_of as cast_by};
+ghost use Rattle.mmt_cast.specs.Refusing.{refusal};
 ghost use Rattle.mmt_model.specs.Right.{IsRight};
 
 use crate::{SendEnd, send};
 use mmt_admit::{admit, is_readable};
 use mmt_casting::cast_of;
 use mmt_io::{CallKind, FailAt, MemoryPort, MemoryShelf};
-use mmt_model::Programme;
+use mmt_model::{Cast, Programme};
 use mmt_plan::read_plan;
 use std::alloc::Global;
 use std::test::Fail;
@@ -18,44 +21,104 @@ const PLAN: &str =
 // The packets of the worked plan's stream (examples/two_units.tlv), each by the bytes before those of the file, and
 // which bytes of the file follow: from where, and how many.
 const STREAM: [(&str, usize, usize); 6] = [
-    ("7f03004c00106060000000114020010db8000000000000000000000001ff0e0000000000000000000000000101c864c8\
-     640002000003e80000000000000000f10000000c00000fa000010000000003e8", 0, 0),
-    ("7f0300610011610002000003e8006400000001000000000000000049012000004420000040fc02703100000100000000\
+    (
+        "7f03004c00106060000000114020010db8000000000000000000000001ff0e0000000000000000000000000101c864c8\
+     640002000003e80000000000000000f10000000c00000fa000010000000003e8",
+        0,
+        0,
+    ),
+    (
+        "7f0300610011610002000003e8006400000001000000000000000049012000004420000040fc02703100000100000000\
      00017668657631fe01000100002700010c00000007000003e880000000802615fd0000ea60000000073f03e90203e903\
-     e907d20000", 0, 0),
-    ("7f03059d0012610100010003e800c800000000058c2a02000000070000000100000001000000000000", 0, 1400),
-    ("7f0305c700136060000000114020010db8000000000000000000000001ff0e0000000000000000000000000101c864c8\
-     640000010003e800d200000001058c2c01000000070000000100000001000000000000", 1400, 1400),
-    ("7f0300ed0014610000010003e800dc0000000200dc2e00000000070000000100000001000000000000", 2800, 200),
-    ("7f0302190015610000010003e8012c0000000302082800000000070000000100000002000000000000", 3000, 500),
+     e907d20000",
+        0,
+        0,
+    ),
+    (
+        "7f03059d0012610100010003e800c800000000058c2a02000000070000000100000001000000000000",
+        0,
+        1400,
+    ),
+    (
+        "7f0305c700136060000000114020010db8000000000000000000000001ff0e0000000000000000000000000101c864c8\
+     640000010003e800d200000001058c2c01000000070000000100000001000000000000",
+        1400,
+        1400,
+    ),
+    (
+        "7f0300ed0014610000010003e800dc0000000200dc2e00000000070000000100000001000000000000",
+        2800,
+        200,
+    ),
+    (
+        "7f0302190015610000010003e8012c0000000302082800000000070000000100000002000000000000",
+        3000,
+        500,
+    ),
 ];
 
 // The same as plain IPv6, with the checksums of a plain program.
 const PLAIN: [(&str, usize, usize); 6] = [
-    ("7f02004f600000000027114020010db8000000000000000000000001ff0e0000000000000000000000000101c864c864\
-     0027b70e0002000003e80000000000000000f10000000c00000fa000010000000003e8", 0, 0),
-    ("7f02008e600000000066114020010db8000000000000000000000001ff0e0000000000000000000000000101c864c864\
+    (
+        "7f02004f600000000027114020010db8000000000000000000000001ff0e0000000000000000000000000101c864c864\
+     0027b70e0002000003e80000000000000000f10000000c00000fa000010000000003e8",
+        0,
+        0,
+    ),
+    (
+        "7f02008e600000000066114020010db8000000000000000000000001ff0e0000000000000000000000000101c864c864\
      006603450002000003e8006400000001000000000000000049012000004420000040fc02703100000100000000000176\
      68657631fe01000100002700010c00000007000003e880000000802615fd0000ea60000000073f03e90203e903e907d2\
-     0000", 0, 0),
-    ("7f0205ca6000000005a2114020010db8000000000000000000000001ff0e0000000000000000000000000101c864c864\
-     05a2d3d80100010003e800c800000000058c2a02000000070000000100000001000000000000", 0, 1400),
-    ("7f0205ca6000000005a2114020010db8000000000000000000000001ff0e0000000000000000000000000101c864c864\
-     05a2cac60000010003e800d200000001058c2c01000000070000000100000001000000000000", 1400, 1400),
-    ("7f02011a6000000000f2114020010db8000000000000000000000001ff0e0000000000000000000000000101c864c864\
-     00f2ec490000010003e800dc0000000200dc2e00000000070000000100000001000000000000", 2800, 200),
-    ("7f02024660000000021e114020010db8000000000000000000000001ff0e0000000000000000000000000101c864c864\
-     021ef0da0000010003e8012c0000000302082800000000070000000100000002000000000000", 3000, 500),
+     0000",
+        0,
+        0,
+    ),
+    (
+        "7f0205ca6000000005a2114020010db8000000000000000000000001ff0e0000000000000000000000000101c864c864\
+     05a2d3d80100010003e800c800000000058c2a02000000070000000100000001000000000000",
+        0,
+        1400,
+    ),
+    (
+        "7f0205ca6000000005a2114020010db8000000000000000000000001ff0e0000000000000000000000000101c864c864\
+     05a2cac60000010003e800d200000001058c2c01000000070000000100000001000000000000",
+        1400,
+        1400,
+    ),
+    (
+        "7f02011a6000000000f2114020010db8000000000000000000000001ff0e0000000000000000000000000101c864c864\
+     00f2ec490000010003e800dc0000000200dc2e00000000070000000100000001000000000000",
+        2800,
+        200,
+    ),
+    (
+        "7f02024660000000021e114020010db8000000000000000000000001ff0e0000000000000000000000000101c864c864\
+     021ef0da0000010003e8012c0000000302082800000000070000000100000002000000000000",
+        3000,
+        500,
+    ),
 ];
 
 // The stream where the two units have 100 and 500 bytes and one tick, so that one packet has both.
 const GATHERED: [(&str, usize, usize); 4] = [
-    ("7f03004c00106060000000114020010db8000000000000000000000001ff0e0000000000000000000000000101c864c8\
-     640002000003e80000000000000000f10000000c00000fa000010000000003e8", 0, 0),
-    ("7f0300610011610002000003e8006400000001000000000000000049012000004420000040fc02703100000100000000\
+    (
+        "7f03004c00106060000000114020010db8000000000000000000000001ff0e0000000000000000000000000101c864c8\
+     640002000003e80000000000000000f10000000c00000fa000010000000003e8",
+        0,
+        0,
+    ),
+    (
+        "7f0300610011610002000003e8006400000001000000000000000049012000004420000040fc02703100000100000000\
      00017668657631fe01000100002700010c00000007000003e880000000802615fd0000ea60000000073f03e90203e903\
-     e907d20000", 0, 0),
-    ("7f03028f0012610100010003e800c800000000027e29000000000700720000000100000001000000000000", 0, 100),
+     e907d20000",
+        0,
+        0,
+    ),
+    (
+        "7f03028f0012610100010003e800c800000000027e29000000000700720000000100000001000000000000",
+        0,
+        100,
+    ),
     ("02020000000100000002000000000000", 3000, 500),
 ];
 
@@ -103,6 +166,35 @@ fn programme_of(alloc: Global, plan: &str) -> Result<Programme, Fail>
     }
 }
 
+// The cast of a programme.
+fn cast_for(alloc: Global, programme: &Programme) -> Result<Cast, Fail>
+    requires { IsRight programme.now }
+    ensures cast { IfOk result (λ cast. cast ≡ cast_by programme.now) }
+    ensures none { OnOk result (refusal programme.now ≡ None) }
+    ensures readable { IfOk result IsReadable }
+{
+    match cast_of(alloc, programme) {
+        Ok(cast) => {
+            if is_readable(&cast) {
+                Ok(cast)
+            } else {
+                Err("not readable")?
+            }
+        }
+        Err(_) => Err("no cast")?,
+    }
+}
+
+// A shelf that perhaps has the file, where these reads fail.
+fn shelf_of(alloc: Global, file: Option<&[u8]>, reads: &[u64]) -> Result<MemoryShelf, Fail> {
+    let mut shelf = MemoryShelf::new(alloc, reads.to_vec(alloc)?);
+    if let Some(bytes) = file {
+        let bytes = bytes.to_vec(alloc)?;
+        shelf.put("v.bin", bytes)?;
+    }
+    Ok(shelf)
+}
+
 // The stream of a plan, with these first bytes of its file, where these reads of it and these writes fail.
 fn sent_of(
     alloc: Global,
@@ -112,24 +204,13 @@ fn sent_of(
     writes: &[FailAt],
 ) -> Result<Outcome, Fail> {
     let programme = programme_of(alloc, plan)?;
-    let cast = match cast_of(alloc, &programme) {
-        Ok(cast) => cast,
-        Err(_) => Err("no cast")?,
-    };
-    if !is_readable(&cast) {
-        Err("not readable")?
-    }
-    let admitted = match admit(&cast) {
-        Ok(admitted) => admitted,
+    let cast = cast_for(alloc, &programme)?;
+    let mut shelf = shelf_of(alloc, file, reads)?;
+    let mut port = MemoryPort::new(alloc, Vec::new(alloc), 16, 8192, writes.to_vec(alloc)?)?;
+    let end = match admit(&cast) {
+        Ok(admitted) => send(alloc, &programme, &admitted, &mut shelf, &mut port),
         Err(_) => Err("not admitted")?,
     };
-    let mut shelf = MemoryShelf::new(alloc, reads.to_vec(alloc)?);
-    if let Some(bytes) = file {
-        let bytes = bytes.to_vec(alloc)?;
-        shelf.put("v.bin", bytes)?;
-    }
-    let mut port = MemoryPort::new(alloc, Vec::new(alloc), 16, 8192, writes.to_vec(alloc)?)?;
-    let end = send(alloc, &programme, &admitted, &mut shelf, &mut port);
     let written = port.written().to_vec(alloc)?;
     Ok(Outcome { end, written })
 }
@@ -154,7 +235,9 @@ fn the_worked_plan_is_sent_byte_for_byte(rt: HostRuntime) -> Result<(), Fail> {
 }
 
 #[test]
-fn without_full_headers_packets_are_plain_with_their_checksums(rt: HostRuntime) -> Result<(), Fail> {
+fn without_full_headers_packets_are_plain_with_their_checksums(
+    rt: HostRuntime,
+) -> Result<(), Fail> {
     let alloc = rt.alloc();
     let bytes = file(alloc, 3500)?;
     let plan = changed(alloc, PLAN, "\"full_every\":3", "\"full_every\":0")?;

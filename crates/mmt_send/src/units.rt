@@ -55,11 +55,18 @@ pub fn put_lone<H: Shelf>(
     requires unit { lone.now.unit < length (all_units job.now.programme.now) }
     requires begins { lone.now.number * job.now.programme.now.limit < (unit_at job.now.programme.now lone.now.unit).value.length }
     requires room { length buf.old ≡ job.now.programme.now.limit }
-    ensures shelf { Stays (H.tells shelf.old) (H.tells shelf.new) (H.file shelf.old) (H.file shelf.new) (H.faults shelf.old) (H.faults shelf.new) }
-    ensures cause { IfErr result (λ e. HasCause job.now.programme.now (H.tells shelf.old) (H.file shelf.old) (H.faults shelf.old) (H.faults shelf.new) e) }
+    ensures shelf { Stays (H.tells shelf.old) (H.tells shelf.new) (H.file shelf.old) (H.file shelf.new) (H.faults shelf.old)
+        (H.faults shelf.new) }
+    ensures cause { IfErr result (λ e. HasCause job.now.programme.now (H.tells shelf.old) (H.file shelf.old) (H.faults shelf.old)
+        (H.faults shelf.new) e) }
     ensures long { OnOk result (length out.new.items ≤ length out.old.items + 60022) }
-    ensures payload { IsTrue (H.tells shelf.old) → OnOk result (out.new.items ≡ out.old.items ++ bytes_of (lone_written job.now.cast.now (contents_sent job.now.programme.now (files_on (H.file shelf.old) job.now.programme.now)) lone.now.unit lone.now.number lone.now.part lone.now.left)) }
-    ensures held { IsTrue (H.tells shelf.old) → OnOk result (HasPart job.now.programme.now (files_on (H.file shelf.old) job.now.programme.now) lone.now.unit lone.now.number) }
+    ensures payload { IsTrue (H.tells shelf.old) →
+        OnOk result (out.new.items ≡ out.old.items ++ bytes_of
+        (lone_written job.now.cast.now (contents_sent job.now.programme.now (files_on (H.file shelf.old) job.now.programme.now))
+        lone.now.unit lone.now.number lone.now.part lone.now.left)) }
+    ensures held { IsTrue (H.tells shelf.old) →
+        OnOk result (HasPart job.now.programme.now (files_on (H.file shelf.old) job.now.programme.now) lone.now.unit
+        lone.now.number) }
 {
     let source = source_of(job.programme, job.cast, lone.unit);
     let limit = job.programme.limit;
@@ -86,7 +93,12 @@ pub struct Several {
 
 // A data unit with these bytes. The place of its bytes is not written.
 fn data_of<'a>(source: &Source<'_>, bytes: &'a [u8]) -> DataUnit<'a>
-    ensures { view_unit result ≡ record { head = record { key = source.now.unit.now.key; priority = source.now.unit.now.priority; dependency = source.now.unit.now.dependency }; from = 0; bytes = bytes.now } }
+    ensures { view_unit result ≡ record {
+      head = record
+          { key = source.now.unit.now.key; priority = source.now.unit.now.priority; dependency = source.now.unit.now.dependency };
+      from = 0;
+      bytes = bytes.now;
+    } }
 {
     DataUnit {
         key: source.unit.key,
@@ -114,11 +126,18 @@ pub fn put_several<H: Shelf>(
     requires job { HasCast job.now.programme.now job.now.cast.now }
     requires group { IsGroup job.now.programme.now several.now.first several.now.count }
     requires room { length buf.old ≡ job.now.programme.now.limit }
-    ensures shelf { Stays (H.tells shelf.old) (H.tells shelf.new) (H.file shelf.old) (H.file shelf.new) (H.faults shelf.old) (H.faults shelf.new) }
-    ensures cause { IfErr result (λ e. HasCause job.now.programme.now (H.tells shelf.old) (H.file shelf.old) (H.faults shelf.old) (H.faults shelf.new) e) }
+    ensures shelf { Stays (H.tells shelf.old) (H.tells shelf.new) (H.file shelf.old) (H.file shelf.new) (H.faults shelf.old)
+        (H.faults shelf.new) }
+    ensures cause { IfErr result (λ e. HasCause job.now.programme.now (H.tells shelf.old) (H.file shelf.old) (H.faults shelf.old)
+        (H.faults shelf.new) e) }
     ensures long { OnOk result (length out.new.items ≤ length out.old.items + 60022) }
-    ensures payload { IsTrue (H.tells shelf.old) → OnOk result (out.new.items ≡ out.old.items ++ bytes_of (written job.now.cast.now (contents_sent job.now.programme.now (files_on (H.file shelf.old) job.now.programme.now)) (Carries.Group several.now.first several.now.count))) }
-    ensures held { IsTrue (H.tells shelf.old) → OnOk result ((u : ℕ) → several.now.first ≤ u → u < several.now.first + several.now.count → HasPart job.now.programme.now (files_on (H.file shelf.old) job.now.programme.now) u 0) }
+    ensures payload { IsTrue (H.tells shelf.old) →
+        OnOk result (out.new.items ≡ out.old.items ++ bytes_of
+        (written job.now.cast.now (contents_sent job.now.programme.now (files_on (H.file shelf.old) job.now.programme.now))
+        (Carries.Group several.now.first several.now.count))) }
+    ensures held { IsTrue (H.tells shelf.old) →
+        OnOk result ((u : ℕ) → several.now.first ≤ u → u < several.now.first + several.now.count → HasPart job.now.programme.now
+        (files_on (H.file shelf.old) job.now.programme.now) u 0) }
 {
     let first = source_of(job.programme, job.cast, several.first);
     let head = MpuHead {

@@ -1,4 +1,4 @@
-use Rattle.std.proofs.Common.{◌≡◌, ◌+◌, ◌≤◌, ℕ, List, Option, length, arith}
+use Rattle.std.proofs.Common.{◌≡◌, ℕ, List, Option, length, arith}
 use Rattle.mmt_plan.proofs.Passes.{before}
 use Rattle.mmt_send.specs.Files.{bytes_in, bytes_of_unit}
 use Rattle.mmt_send.proofs.FileReads.{is-short, whole-read, whole-there}

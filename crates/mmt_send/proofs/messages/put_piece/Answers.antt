@@ -1,4 +1,4 @@
-use Rattle.std.proofs.Common.{◌≡◌, ◌≤◌, List, ℕ, length, arith, ap}
+use Rattle.std.proofs.Common.{◌≤◌, List, ℕ, length, arith, ap}
 use Rattle.mmt_send.proofs.Lone.{added-long}
 use Rattle.mmt_send.proofs.Pieces.{part-short, piece-long}
 use Rattle.mmt_send.proofs.messages.put_piece.Goals as goal

@@ -1,4 +1,4 @@
-use Rattle.std.proofs.Common.{◌≡◌, ◌≤◌, List, ℕ, length, arith, ap}
+use Rattle.std.proofs.Common.{List, ℕ, length, arith, ap}
 use Rattle.mmt_send.proofs.Mmtp.{made-long}
 use Rattle.mmt_send.proofs.packets.make_packet.Goals as goal
 

@@ -1,4 +1,4 @@
-use Rattle.std.proofs.Common.{◌≡◌, ◌<◌, ◌∷◌, ◌++◌, ◌∙◌, List, [], ℕ, Option, length, arith, ap, refl, get_or, subst, below_more}
+use Rattle.std.proofs.Common.{◌≡◌, ◌∷◌, ◌++◌, ◌∙◌, List, [], ℕ, Option, length, arith, ap, refl, get_or, subst, below_more}
 use Rattle.mmt_cast.specs.Casting.{cast_of}
 use Rattle.mmt_model.specs.declared.casts.Cast.{Cast}
 use Rattle.mmt_plan.proofs.Fronts.{stays_on}

@@ -1,4 +1,4 @@
-use Rattle.std.proofs.Common.{◌≡◌, ◌+◌, ◌*◌, ◌-◌, ◌≤◌, ◌++◌, min, take, drop, length, ℕ, List, arith, subst}
+use Rattle.std.proofs.Common.{◌≡◌, ◌*◌, ◌≤◌, ◌++◌, take, drop, length, ℕ, arith, subst}
 use Rattle.std.proofs.lemmas.List.{length-take}
 use Rattle.mmt_frag.specs.declared.cutting.PartOf.{PartOf}
 use Rattle.mmt_sent.specs.Payloads.{bytes_of}

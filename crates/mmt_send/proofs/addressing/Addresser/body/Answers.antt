@@ -1,4 +1,4 @@
-use Rattle.std.proofs.Common.{◌≡◌, ℕ, List, length, true}
+use Rattle.std.proofs.Common.{true}
 use Rattle.mmt_ip.specs.Spelling.{Value as Datagram, spelling as datagram_spelling}
 use Rattle.mmt_ctx.specs.Spelling.{spelling as compressed_spelling}
 use Rattle.mmt_ctx.specs.Squeezing.{packet_at}

@@ -1,4 +1,4 @@
-use Rattle.std.proofs.Common.{◌≡◌, ◌<◌, ◌∙◌, List, length, arith, ap, subst}
+use Rattle.std.proofs.Common.{List, length, arith, ap, subst}
 use Rattle.mmt_model.specs.declared.casts.Sent.{Sent}
 use Rattle.mmt_sent.specs.Stream.{addressing_of}
 use Rattle.mmt_send.specs.Files.{files_on}
