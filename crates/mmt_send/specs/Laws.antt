@@ -19,7 +19,7 @@ pub record Adds (old new : List Event) (bytes : List ℕ) : Type 0 where
 abbrev pub StreamsAreBytes : Type 0
 StreamsAreBytes = (old : List Event) (packets : List Tlv) → Adds old (old ++ pieces packets) (joined packets)
 
--- the writes of the first of them, and of a front of the next, write a front of their bytes
+-- the writes of the first of them, and of a prefix of the next, write a prefix of their bytes
 abbrev pub FrontsAreBytes : Type 0
 FrontsAreBytes = (old new : List Event) (packets : List Tlv) → HasBegun old new packets → (front rest : List ℕ) × (joined packets ≡ front ++ rest) × Adds old new front
 

@@ -17,7 +17,7 @@ use Rattle.mmt_send.specs.declared.sending.Sender.{Sender}
 abbrev pub pieces : List Tlv → List Event
 pieces packets = map (λ p. Out (spelling p)) packets
 
--- nothing, or the write of a front of the first of these packets
+-- nothing, or the write of a prefix of the first of these packets
 abbrev pub IsFrontOf : List Event → List Tlv → Type 0
 IsFrontOf [] packets = Unit {0}
 IsFrontOf (Out bytes ∷ []) (p ∷ packets) = (rest : List ℕ) × (spelling p ≡ bytes ++ rest)
@@ -26,13 +26,13 @@ IsFrontOf (In bytes ∷ events) packets = Unit {0} → ⊥
 IsFrontOf (Note bytes ∷ events) packets = Unit {0} → ⊥
 IsFrontOf (Out bytes ∷ event ∷ events) packets = Unit {0} → ⊥
 
--- a front of the first of these packets was written, or nothing
+-- a prefix of the first of these packets was written, or nothing
 pub record AddsFront (old new : List Event) (packets : List Tlv) : Type 0 where
   pub last : List Event
   pub history : new ≡ old ++ last
   pub front : IsFrontOf last packets
 
--- of these packets the first were written, and nothing else passed but perhaps a front of the next
+-- of these packets the first were written, and nothing else passed but perhaps a prefix of the next
 pub record HasBegun (old new : List Event) (packets : List Tlv) : Type 0 where
   pub sent : List Tlv
   pub left : List Tlv

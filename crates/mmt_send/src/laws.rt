@@ -3,7 +3,7 @@
 ghost use Rattle.mmt_send.specs.Laws.{CheckedFilesAreWhole, FrontsAreBytes, StreamsAreBytes};
 
 /// A port to which packets were written has their bytes and no other, and nothing was noted or read; and where only
-/// the first of them were written, a front of their bytes.
+/// the first of them were written, a prefix of their bytes.
 pub fn what_is_written()
     ensures all { StreamsAreBytes }
     ensures front { FrontsAreBytes }
