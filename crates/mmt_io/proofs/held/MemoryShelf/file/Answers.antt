@@ -1,4 +1,4 @@
-use Rattle.std.proofs.Common.{◌≡◌, Some, None, option_map, string_bytes, ap, ◌∙◌}
+use Rattle.std.proofs.Common.{Some, option_map, string_bytes, ap, ◌∙◌}
 use Rattle.mmt_io.specs.Shelf.{MemoryFiles, file_in}
 use Rattle.mmt_io.proofs.Files.{looked_up}
 use Rattle.mmt_io.proofs.held.MemoryShelf.file.Goals as goal

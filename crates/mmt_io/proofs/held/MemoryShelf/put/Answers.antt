@@ -1,4 +1,4 @@
-use Rattle.std.proofs.Common.{◌≡◌, ℕ, List, Some, if◌then◌else◌, string_bytes, ap, ◌∙◌}
+use Rattle.std.proofs.Common.{Some, if◌then◌else◌, string_bytes, ap, ◌∙◌}
 use Rattle.std.specs.Str.{bytes_eq}
 use Rattle.mmt_io.specs.Shelf.{MemoryFiles, file_in}
 use Rattle.mmt_io.proofs.Files.{shown, put_in}
