@@ -109,7 +109,7 @@ no-front packets h now e = record { last = []; history = e ∙ sym (append-nil h
 pub ends-for : (programme : Programme) (tells : Bool) (file : List ℕ → Option (List ℕ)) (m n : ℕ) (writes : ℕ × ℕ) (e : SendEnd) → HasCause programme tells file m n e → EndsFor programme tells file (m, n) writes e
 ends-for programme tells file m n writes ends.ReadFault h = h
 ends-for programme tells file m n writes (ends.UnitShort u l g) h = h
-ends-for programme tells file m n writes ends.WriteFault h = absurd (h tt)
+ends-for programme tells file m n writes ends.WriteFault h = absurd h
 ends-for programme tells file m n writes ends.OutOfMemory h = tt
 
 pub ends-later : {a b : Bool} {f g : List ℕ → Option (List ℕ)} (programme : Programme) (m n o k l w : ℕ) (e : SendEnd) → Stays a b f g m n → k ≤ l → EndsFor programme b g (n, o) (l, w) e → EndsFor programme a f (m, o) (k, w) e

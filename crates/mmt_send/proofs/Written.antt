@@ -45,10 +45,10 @@ last-is : (last : List Event) (left : List Tlv) → IsFrontOf last left → Last
 last-is [] left f = record { front = []; rest = joined left; all = refl; written = refl; noted = refl; read = refl }
 last-is (Out bytes ∷ []) (p ∷ ps) f =
     record { front = bytes; rest = f.0 ++ joined ps; all = ap (λ (xs : List ℕ). xs ++ joined ps) f.1 ∙ append_assoc bytes f.0 (joined ps); written = append-nil bytes; noted = refl; read = refl }
-last-is (Out bytes ∷ []) [] f = absurd (f tt)
-last-is (Out bytes ∷ x ∷ xs) left f = absurd (f tt)
-last-is (In bytes ∷ xs) left f = absurd (f tt)
-last-is (Note bytes ∷ xs) left f = absurd (f tt)
+last-is (Out bytes ∷ []) [] f = absurd f
+last-is (Out bytes ∷ x ∷ xs) left f = absurd f
+last-is (In bytes ∷ xs) left f = absurd f
+last-is (Note bytes ∷ xs) left f = absurd f
 
 pub fronts-are-bytes : FrontsAreBytes
 fronts-are-bytes old new ps begun =

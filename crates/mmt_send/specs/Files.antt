@@ -41,5 +41,5 @@ pub record IsUnitShort (programme : Programme) (files : ℕ → List ℕ) (unit 
 abbrev pub HasCause : Programme → Bool → (List ℕ → Option (List ℕ)) → ℕ → ℕ → SendEnd → Type 0
 HasCause programme tells file before now ends.ReadFault = Rose before now
 HasCause programme tells file before now (ends.UnitShort unit len got) = IsTrue tells → IsUnitShort programme (files_on file programme) unit len got
-HasCause programme tells file before now ends.WriteFault = Unit {0} → ⊥
+HasCause programme tells file before now ends.WriteFault = ⊥
 HasCause programme tells file before now ends.OutOfMemory = Unit {0}

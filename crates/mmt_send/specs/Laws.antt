@@ -1,4 +1,4 @@
--- What follows from the history of a port that was written to, and from files that were checked.
+-- What follows from the history of a port that was written to, and from files that were checked (this project's rules).
 use Rattle.std.specs.Prelude.{◌≡◌, ℕ, List, ◌++◌, Option, Ok}
 use Rattle.mmt_io.specs.History.{Event, bytes_noted, bytes_read, bytes_written}
 use Rattle.mmt_model.specs.Right.{IsRight}

@@ -21,10 +21,10 @@ pieces packets = map (λ p. Out (spelling p)) packets
 abbrev pub IsFrontOf : List Event → List Tlv → Type 0
 IsFrontOf [] packets = Unit {0}
 IsFrontOf (Out bytes ∷ []) (p ∷ packets) = (rest : List ℕ) × (spelling p ≡ bytes ++ rest)
-IsFrontOf (Out bytes ∷ []) [] = Unit {0} → ⊥
-IsFrontOf (In bytes ∷ events) packets = Unit {0} → ⊥
-IsFrontOf (Note bytes ∷ events) packets = Unit {0} → ⊥
-IsFrontOf (Out bytes ∷ event ∷ events) packets = Unit {0} → ⊥
+IsFrontOf (Out bytes ∷ []) [] = ⊥
+IsFrontOf (In bytes ∷ events) packets = ⊥
+IsFrontOf (Note bytes ∷ events) packets = ⊥
+IsFrontOf (Out bytes ∷ event ∷ events) packets = ⊥
 
 -- a prefix of the first of these packets was written, or nothing
 pub record AddsFront (old new : List Event) (packets : List Tlv) : Type 0 where
