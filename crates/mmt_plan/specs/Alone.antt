@@ -1,5 +1,5 @@
 -- What the objects of a plan have by themselves, before they are checked against each other (this project's rules).
-use Rattle.std.specs.Prelude.{ℕ, ◌<◌, ◌≤◌, ◌^◌, List, length, map}
+use Rattle.std.specs.Prelude.{ℕ, ◌<◌, ◌≤◌, ◌^◌, length, map}
 use Rattle.std.specs.List.{All, sum_by}
 use Rattle.mmt_model.specs.Right.{AreDifferent, AreRising, IsFrom, IsRight, IsRightAsset, IsRightFlow, IsRightMpu, IsRightSignal, units_of_asset}
 use Rattle.mmt_model.specs.declared.programmes.Asset.{Asset}

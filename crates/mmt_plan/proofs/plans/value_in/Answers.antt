@@ -1,4 +1,3 @@
-use Rattle.std.proofs.Common.{rules}
 use Rattle.serde_json.specs.View.{view}
 use Rattle.mmt_plan.proofs.Nodes.{read_nodes}
 use Rattle.mmt_plan.proofs.Outcomes.{json, no_json}
