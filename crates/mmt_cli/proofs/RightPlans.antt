@@ -1,19 +1,18 @@
 -- Each programme that a plan is read as is right.
-use Rattle.std.proofs.Common.{◌≡◌, ℕ, suc, ◌+◌, ◌-◌, ◌*◌, ◌<◌, ◌≤◌, ◌^◌, Bool, true, false, ◌&&◌, nat_le, nat_lt, List, [], ◌∷◌, codes, length, map, get_or, Option, Some, None, option_map, option_and_then, Result, Ok, Err, if◌then◌else◌, refl, sym, ap, subst, arith}
+use Rattle.std.proofs.Common.{◌≡◌, ℕ, suc, ◌+◌, ◌-◌, ◌*◌, ◌<◌, ◌≤◌, ◌^◌, Bool, true, false, ◌&&◌, nat_le, nat_lt, List, [], ◌∷◌, codes, length, Option, Some, None, option_map, option_and_then, Result, Ok, Err, if◌then◌else◌, refl, sym, ap, subst, arith}
 use Rattle.std.proofs.lemmas.Bool.{and_parts, leb-true}
 use Rattle.std.proofs.lemmas.Bool.Decides.{nat_tests}
-use Rattle.std.proofs.lemmas.List.Elements.{All-cons, All-head, All-nil}
+use Rattle.std.proofs.lemmas.List.Elements.{All-cons, All-nil}
 use Rattle.std.specs.List.{All}
 use Rattle.std.specs.Str.{bytes_eq, is_utf8}
 use Rattle.serde_json.specs.Data.{Data, Items, no_items, item}
 use Rattle.serde_json.specs.Events.{items_len}
-use Rattle.serde_json.specs.Find.{as_array, as_bool, as_number, as_str, as_u64}
+use Rattle.serde_json.specs.Find.{as_array, as_number, as_str, as_u64}
 use Rattle.serde_json.specs.Read.{read}
 use Rattle.mmt_base.specs.declared.ticks.LongTick.{LongTick}
 use Rattle.mmt_command.specs.Flows.{flow_text}
 use Rattle.mmt_model.specs.Right.{AreRising, FitsAus, HasKeyOf, IsFileName, IsFrom, IsKind, IsRight, IsRightAsset, IsRightAu, IsRightFlow, IsRightMpu, IsRightParams, IsRightUnit}
 use Rattle.mmt_model.specs.declared.programmes.Asset.{Asset}
-use Rattle.mmt_model.specs.declared.programmes.Flow.{Flow}
 use Rattle.mmt_model.specs.declared.programmes.Programme.{Programme}
 use Rattle.mmt_plan.proofs.Agreeing.{right as agreed_right}
 use Rattle.mmt_plan.proofs.Counts.{programme_is_few}
@@ -29,7 +28,6 @@ use Rattle.mmt_plan.specs.Aus.{as_pair_in, au_at, au_of, two_numbers}
 use Rattle.mmt_plan.specs.Flows.{as_flow, flow_at, flow_from, flow_in, is_in_range}
 use Rattle.mmt_plan.specs.Members.{array_at, array_from_at, as_array_from, as_array_of, as_number_in, as_text_of, boolean_at, is_object_at, is_within, list_at, list_from_at, member_at, no_other_at, number_at, right_member, text_at, where_true}
 use Rattle.mmt_plan.specs.Mpus.{most_aus, mpu_at, mpu_keys, mpu_of, unit_in}
-use Rattle.mmt_plan.specs.Names.{with_name}
 use Rattle.mmt_plan.specs.Nodes.{nodes}
 use Rattle.mmt_plan.specs.Plan.{bytes_of, json_in, json_of, plan, programme_in}
 use Rattle.mmt_plan.specs.Reading.{◌>>=◌, each, each_with}

@@ -1,9 +1,8 @@
 -- What is sent is a programme that can be sent, and `take` gives it back.
-use Rattle.std.proofs.Common.{◌≡◌, ◌⊎◌, ◌≤◌, inl, inr, ℕ, ◌+◌, true, nat_le, List, ◌++◌, length, Option, Some, None, Result, Ok, Err, refl, ap, sym, subst, ◌∙◌}
+use Rattle.std.proofs.Common.{◌≡◌, ◌⊎◌, ◌≤◌, ℕ, ◌+◌, true, List, ◌++◌, length, Option, Some, None, Result, Ok, Err, refl, ap, sym, subst, ◌∙◌}
 use Rattle.std.proofs.lemmas.Bool.{leb-true}
 use Rattle.std.proofs.lemmas.List.{append_cancel_left}
 use Rattle.std.proofs.lemmas.List.Elements.{All-from_recursion, All-weaker}
-use Rattle.std.specs.List.{All}
 use Rattle.mmt_cast.specs.Casting.{cast_of}
 use Rattle.mmt_cast.specs.Placing.{PlacedUnit, all_units}
 use Rattle.mmt_cast.specs.Refusing.{Refusal as NoCast, refusal}
@@ -11,7 +10,7 @@ use Rattle.mmt_io.specs.History.{Event, bytes_written}
 use Rattle.mmt_model.specs.Admission.{Fault, fault}
 use Rattle.mmt_model.specs.declared.programmes.Programme.{Programme}
 use Rattle.mmt_mux.proofs.Holding.{UnitHeld, units-held}
-use Rattle.mmt_mux.specs.Ending.{IsMuxAnswer, Muxes as Sends, Passes}
+use Rattle.mmt_mux.specs.Ending.{IsMuxAnswer, Muxes as Sends}
 use Rattle.mmt_mux.specs.Sendable.{Why, ◌>>=◌, checked, has_cast, is_admitted, sendable, sent_bytes}
 use Rattle.mmt_mux.specs.declared.ends.MuxEnd.{MuxEnd}
 use Rattle.mmt_mux.specs.declared.ends.MuxEnd.TheVariants as muxes
@@ -21,19 +20,14 @@ use Rattle.mmt_plan.specs.declared.ends.Refusal.{Refusal}
 use Rattle.mmt_send.specs.Files.{bytes_in, files_on}
 use Rattle.mmt_sent.specs.Stream.{stream}
 use Rattle.mmt_stream.specs.Streaming.{Does}
-use Rattle.mmt_stream.specs.declared.end.StreamEnd.{StreamEnd}
-use Rattle.mmt_stream.specs.declared.end.StreamEnd.TheVariants as end
 use Rattle.mmt_take.specs.Taking.{taking}
 use Rattle.mmt_tlv.specs.Framing.{joined}
-use Rattle.mmt_tune.specs.declared.config.Config.{Config}
-use Rattle.mmt_headline.specs.Programmes.{HoldUnits, IsSendable, Receives}
+use Rattle.mmt_headline.specs.Programmes.{HoldUnits}
 use Rattle.mmt_headline.specs.WholeCasts.{TakeGivesAllBack}
 use Rattle.mmt_cli.proofs.GivenBack.{done_end, status_done}
 use Rattle.mmt_cli.proofs.RightPlans.{plans_are_right}
-use Rattle.mmt_cli.specs.Moments.{Moment}
-use Rattle.mmt_cli.specs.Muxing.{Muxes}
-use Rattle.mmt_cli.specs.SentBack.{GaveAllBack, MuxThenTake, SentProgrammesAreReached, SentProgrammesAreSendable, TakeGivesBackWhatMuxSent}
-use Rattle.mmt_cli.specs.Statuses.{status_of, status_of_run}
+use Rattle.mmt_cli.specs.SentBack.{SentProgrammesAreReached, SentProgrammesAreSendable, TakeGivesBackWhatMuxSent}
+use Rattle.mmt_cli.specs.Statuses.{status_of_run}
 use Rattle.mmt_cli.specs.declared.status.Status.{Status}
 use Rattle.mmt_cli.specs.declared.status.Status.TheVariants as status
 
@@ -117,15 +111,18 @@ given_all_back can law file name config limit outcome before after old new run =
     let p : Programme = sent.programme in
     let files : ℕ → List ℕ = files_on file p in
     let same : run.events ≡ sent.events = append_cancel_left before.history run.events sent.events (sym run.sent ∙ sent.history) in
-    let input : old.left ≡ joined (stream p files) = run.input ∙ ap bytes_written same ∙ sent.written in
-    (p, sent.is, λ hears.
-    let does = subst (λ (l : List ℕ). Does (taking config) limit run.taken.end old.history new.history l new.left old.reads new.reads old.writes new.writes) input run.taken.does in
-    let g = law config p files limit run.taken.end old.history new.history new.left old.reads new.reads old.writes new.writes (can file name p sent.is) hears does in
-    record {
-      events = g.0;
-      history = g.1;
-      written = λ e. g.2 (done_end run.taken.end (sym run.taken.told ∙ e));
-      writing = g.3;
-      done = λ short none. subst (λ (s : Status). (s ≡ status.Done) ⊎ (s ≡ status.OutOfMemory)) (sym run.taken.told)
-          (status_done run.taken.end (g.4 (subst (λ (l : List ℕ). length l ≤ limit) input short) none.0 none.1));
-    })
+    let input : old.left ≡ joined (stream p files) = run.input ∙ ap bytes_written same ∙ sent.written in (
+      p,
+      sent.is,
+      λ hears.
+          let does = subst (λ (l : List ℕ). Does (taking config) limit run.taken.end old.history new.history l new.left old.reads new.reads old.writes new.writes) input run.taken.does in
+          let g = law config p files limit run.taken.end old.history new.history new.left old.reads new.reads old.writes new.writes (can file name p sent.is) hears does in
+          record {
+            events = g.0;
+            history = g.1;
+            written = λ e. g.2 (done_end run.taken.end (sym run.taken.told ∙ e));
+            writing = g.3;
+            done = λ short none. subst (λ (s : Status). (s ≡ status.Done) ⊎ (s ≡ status.OutOfMemory)) (sym run.taken.told)
+                (status_done run.taken.end (g.4 (subst (λ (l : List ℕ). length l ≤ limit) input short) none.0 none.1));
+          },
+    )
