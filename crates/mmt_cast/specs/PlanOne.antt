@@ -18,7 +18,7 @@ use Rattle.mmt_model.specs.declared.programmes.Signal.TheVariants as signals
 abbrev pub plan_with : Params → List Signal → List Mpu → Programme
 plan_with values signalling mpus =
     record {
-      flow = record { address = 338953138925153547590470800371487866881; port = 51300 };
+      flow = record { address = 339025831081173035177270227320096948481; port = 51300 };
       source = record { address = 42540766411282592856903984951653826561; port = 51300 };
       context = 1;
       full_every = 3;

@@ -1,7 +1,7 @@
 //! Each reason why there is no cast, and what just has one.
 
 use crate::refusing::first_end;
-use crate::samples::{P1, changed, end_told, programme_of, told};
+use crate::samples::{WORKED, changed, end_told, programme_of, told};
 use std::alloc::Global;
 use std::test::Fail;
 
@@ -26,7 +26,7 @@ const TIMES: &str = "\
 fn times_are_within_64_bits(rt: HostRuntime) -> Result<(), Fail> {
     for row in TIMES.lines() {
         let (changes, want) = row.split_once(" @ ").ok_or("no row")?;
-        let plan = changed(rt.alloc(), P1, changes)?;
+        let plan = changed(rt.alloc(), WORKED, changes)?;
         assert_eq!(rt; refused(rt.alloc(), plan.as_str())?.as_str(), want, "{row}");
     }
     Ok(())
@@ -53,7 +53,7 @@ fn with_mpus(alloc: Global, last: usize) -> Result<String, Fail> {
             "\"units\":[{\"at\":0,\"from\":0,\"length\":1,\"movie_fragment\":1,\"sample\":1,\"offset\":0,\"priority\":0,\"dependency\":0}]}",
         )?;
     }
-    let (before, rest) = P1.split_once("[[0,0]]").ok_or("no names")?;
+    let (before, rest) = WORKED.split_once("[[0,0]]").ok_or("no names")?;
     let (middle, _) = rest.split_once("{\"number\":7").ok_or("no MPU")?;
     Ok(format!(in alloc; "{before}[{names}]{middle}{mpus}]}}]}}")?)
 }
@@ -81,7 +81,7 @@ fn with_units(alloc: Global, last: u32) -> Result<String, Fail> {
             "\"movie_fragment\":1,\"sample\":1,\"offset\":0,\"priority\":0,\"dependency\":0}",
         )?;
     }
-    let plan = changed(alloc, P1, "\"limit\":1400 => \"limit\":64")?;
+    let plan = changed(alloc, WORKED, "\"limit\":1400 => \"limit\":64")?;
     let (before, _) = plan.as_str().split_once("\"units\":[").ok_or("no units")?;
     Ok(format!(in alloc; "{before}\"units\":[{units}]}}]}}]}}")?)
 }

@@ -1,7 +1,7 @@
 //! The casts of worked plans, list by list.
 
 use crate::cast_of;
-use crate::samples::{P1, changed, packet_told, programme_of, told};
+use crate::samples::{WORKED, changed, packet_told, programme_of, told};
 use std::test::Fail;
 
 const CAST_1: &str = "\
@@ -19,7 +19,7 @@ copy 1 65536100 65536100 1 1 names 0
 
 #[test]
 fn a_unit_is_cut_and_another_is_whole(rt: HostRuntime) -> Result<(), Fail> {
-    assert_eq!(rt; told(rt.alloc(), P1)?.as_str(), CAST_1);
+    assert_eq!(rt; told(rt.alloc(), WORKED)?.as_str(), CAST_1);
     Ok(())
 }
 
@@ -47,7 +47,7 @@ copy 2 65568800 65568800 2 1 names 0
 
 #[test]
 fn an_mpu_is_named_from_its_first_table(rt: HostRuntime) -> Result<(), Fail> {
-    let plan = changed(rt.alloc(), P1, PLAN_3)?;
+    let plan = changed(rt.alloc(), WORKED, PLAN_3)?;
     assert_eq!(rt; told(rt.alloc(), plan.as_str())?.as_str(), CAST_3);
     Ok(())
 }
@@ -94,7 +94,7 @@ copy 2 65536050 65536050 3 1 names 2
 
 #[test]
 fn units_are_gathered_and_numbers_follow_the_plan(rt: HostRuntime) -> Result<(), Fail> {
-    let plan = changed(rt.alloc(), P1, PLAN_M)?;
+    let plan = changed(rt.alloc(), WORKED, PLAN_M)?;
     assert_eq!(rt; told(rt.alloc(), plan.as_str())?.as_str(), CAST_M);
     Ok(())
 }
@@ -102,7 +102,7 @@ fn units_are_gathered_and_numbers_follow_the_plan(rt: HostRuntime) -> Result<(),
 #[test]
 fn numbers_go_on_past_65535(rt: HostRuntime) -> Result<(), Fail> {
     let changes = "\"limit\":1400 => \"limit\":64 && \"length\":3000 => \"length\":16777216";
-    let plan = changed(rt.alloc(), P1, changes)?;
+    let plan = changed(rt.alloc(), WORKED, changes)?;
     let programme = programme_of(rt.alloc(), plan.as_str())?;
     let cast = cast_of(rt.alloc(), &programme).ok().ok_or("no cast")?;
     // 262,144 parts of 64 bytes, 10 ticks apart, and 8 parts of the other unit.
@@ -142,7 +142,7 @@ copy 3 4360503396 4360503396 3 1 names 1
 
 #[test]
 fn ticks_do_not_wrap(rt: HostRuntime) -> Result<(), Fail> {
-    let plan = changed(rt.alloc(), P1, PLAN_4)?;
+    let plan = changed(rt.alloc(), WORKED, PLAN_4)?;
     assert_eq!(rt; told(rt.alloc(), plan.as_str())?.as_str(), CAST_4);
     Ok(())
 }

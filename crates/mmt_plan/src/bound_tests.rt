@@ -1,10 +1,10 @@
 //! Numbers, texts and lists at and past each bound.
 
-use crate::desk::{P1, changed, replaced, wrong_row};
+use crate::desk::{WORKED, changed, replaced, wrong_row};
 use std::alloc::Global;
 use std::test::Fail;
 
-// P1 with a value that is just in its range.
+// The worked plan with a value that is just in its range.
 const RIGHT: &str =
     r#""ff0e0000000000000000000000000101:51300" => "00000000000000000000000000000000:1" @ right
 "ff0e0000000000000000000000000101:51300" => "ffffffffffffffffffffffffffffffff:65535" @ right
@@ -52,7 +52,7 @@ const RIGHT: &str =
 "priority":0 => "priority":255 @ right
 "dependency":0 => "dependency":255 @ right"#;
 
-// P1 with a value that is just out of its range.
+// The worked plan with a value that is just out of its range.
 const WRONG: &str =
     r#""ff0e0000000000000000000000000101:51300" => "ff0e0000000000000000000000000101:0" @ value at top 0 0 0 field 1
 "ff0e0000000000000000000000000101:51300" => "ff0e0000000000000000000000000101:65536" @ value at top 0 0 0 field 1
@@ -107,7 +107,7 @@ const WRONG: &str =
 "priority":0 => "priority":256 @ value at unit 0 0 0 field 7
 "dependency":0 => "dependency":256 @ value at unit 0 0 0 field 8"#;
 
-// P1 with an empty list.
+// The worked plan with an empty list.
 const EMPTY: &str = r#""mpus": => "mpus":[],"x": @ value at asset 0 0 0 field 7
 "units": => "units":[],"x": @ value at mpu 0 0 0 field 5
 {"at":0,"kind":"parameters"}, =>  && {"at":100,"kind":"table","names":[[0,0]]} =>  @ right
@@ -115,19 +115,19 @@ const EMPTY: &str = r#""mpus": => "mpus":[],"x": @ value at asset 0 0 0 field 7
 
 #[test]
 fn a_value_is_right_up_to_its_bounds(rt: HostRuntime) -> Result<(), Fail> {
-    assert_eq!(rt; wrong_row(rt.alloc(), P1, RIGHT)?.as_str(), "");
+    assert_eq!(rt; wrong_row(rt.alloc(), WORKED, RIGHT)?.as_str(), "");
     Ok(())
 }
 
 #[test]
 fn a_value_past_its_bounds_is_refused(rt: HostRuntime) -> Result<(), Fail> {
-    assert_eq!(rt; wrong_row(rt.alloc(), P1, WRONG)?.as_str(), "");
+    assert_eq!(rt; wrong_row(rt.alloc(), WORKED, WRONG)?.as_str(), "");
     Ok(())
 }
 
 #[test]
 fn an_asset_has_an_mpu_and_an_mpu_a_unit(rt: HostRuntime) -> Result<(), Fail> {
-    assert_eq!(rt; wrong_row(rt.alloc(), P1, EMPTY)?.as_str(), "");
+    assert_eq!(rt; wrong_row(rt.alloc(), WORKED, EMPTY)?.as_str(), "");
     Ok(())
 }
 
@@ -152,7 +152,7 @@ fn texts_have_1_to_255_bytes(rt: HostRuntime) -> Result<(), Fail> {
         let rows = format!(in alloc;
             "\"{name}\" => \"{text}\" @ right\n\"{name}\" => \"{text}x\" @ value at {place}\n\"{name}\" => \"\" @ value at {place}"
         )?;
-        assert_eq!(rt; wrong_row(alloc, P1, rows.as_str())?.as_str(), "");
+        assert_eq!(rt; wrong_row(alloc, WORKED, rows.as_str())?.as_str(), "");
     }
     Ok(())
 }
@@ -165,14 +165,14 @@ fn an_mpu_has_60_access_units_at_most(rt: HostRuntime) -> Result<(), Fail> {
     let rows = format!(in alloc;
         "[2002,0] => [2002,0]{aus} @ right\n[2002,0] => [2002,0]{aus},7 @ value at mpu 0 0 0 field 4"
     )?;
-    assert_eq!(rt; wrong_row(alloc, P1, rows.as_str())?.as_str(), "");
+    assert_eq!(rt; wrong_row(alloc, WORKED, rows.as_str())?.as_str(), "");
     Ok(())
 }
 
 #[test]
 fn a_plan_has_1_to_255_assets(rt: HostRuntime) -> Result<(), Fail> {
     let alloc = rt.alloc();
-    let (_, asset) = P1.split_once("\"assets\":[").ok_or("no assets")?;
+    let (_, asset) = WORKED.split_once("\"assets\":[").ok_or("no assets")?;
     let asset = asset.strip_suffix("]}").ok_or("no end")?;
     let mut assets = String::from_str(alloc, "\"assets\":[ => \"assets\":[")?;
     for id in 1001..1255 {
@@ -180,7 +180,7 @@ fn a_plan_has_1_to_255_assets(rt: HostRuntime) -> Result<(), Fail> {
         assets.push_str(replaced(alloc, asset, "\"packet_id\":256", number.as_str())?.as_str())?;
         assets.push_str(",")?;
     }
-    let most = changed(alloc, P1, assets.as_str())?;
+    let most = changed(alloc, WORKED, assets.as_str())?;
     let rows = r#"[[0,0]] => [[254,0]] @ right
 "assets":[ => "assets":[0, @ value at top 0 0 0 field 13
 "assets": => "assets":[],"assets_": @ value at top 0 0 0 field 13"#;

@@ -1,4 +1,4 @@
-//! Plan P1, plans that differ from it, and what is said of them.
+//! The worked plan, plans that differ from it, and what is said of them.
 
 ghost use Rattle.std.specs.Prelude.{IfOk};
 ghost use Rattle.mmt_model.specs.Right.{IsRight};
@@ -9,10 +9,10 @@ use mmt_model::Programme;
 use std::alloc::Global;
 use std::test::Fail;
 
-pub const P1: &str =
+pub const WORKED: &str =
     "{\"flow\":\"ff0e0000000000000000000000000101:51300\",\"source\":\"20010db8000000000000000000000001:51300\",\"context\":1,\"full_every\":3,\"limit\":1400,\"spacing\":10,\"package\":\"p1\",\"bound\":4000,\"window\":65536,\"delay\":1000,\"start\":65536000,\"signalling\":[{\"at\":0,\"kind\":\"parameters\"},{\"at\":100,\"kind\":\"table\",\"names\":[[0,0]]}],\"assets\":[{\"packet_id\":256,\"id\":\"v\",\"type\":\"hev1\",\"timed\":true,\"timescale\":60000,\"file\":\"v.bin\",\"mpus\":[{\"number\":7,\"time\":4297114779648,\"decoding_offset\":1001,\"aus\":[[1001,1001],[2002,0]],\"units\":[{\"at\":200,\"from\":0,\"length\":3000,\"movie_fragment\":1,\"sample\":1,\"offset\":0,\"priority\":0,\"dependency\":0},{\"at\":300,\"from\":3000,\"length\":500,\"movie_fragment\":1,\"sample\":2,\"offset\":0,\"priority\":0,\"dependency\":0}]}]}]}";
 
-// P1's asset but for its MPU.
+// The worked plan's asset but for its MPU.
 pub const OF_ASSET: &str =
     "\"packet_id\":257,\"id\":\"w\",\"type\":\"aapp\",\"timed\":false,\"timescale\":1";
 

@@ -1,11 +1,11 @@
 //! Plans for each reason, at each kind of place, with what is told.
 
-use crate::desk::{ITEMS, OF_ASSET, P1, changed, files_of, shelf_of, told, wrong_row};
+use crate::desk::{ITEMS, OF_ASSET, WORKED, changed, files_of, shelf_of, told, wrong_row};
 use crate::{PlanEnd, read_plan};
 use std::alloc::Global;
 use std::test::Fail;
 
-// P1 without one of its members.
+// The worked plan without one of its members.
 const MISSING: &str = r#""flow": => "flow_": @ missing at top 0 0 0 field 1
 "source": => "source_": @ missing at top 0 0 0 field 2
 "context": => "context_": @ missing at top 0 0 0 field 3
@@ -101,13 +101,13 @@ const TWICE: &str = r#""time":0 => "time":1 @ mpu-twice at mpu 0 1 0 field 1
 
 #[test]
 fn a_member_that_is_not_there_is_missing(rt: HostRuntime) -> Result<(), Fail> {
-    assert_eq!(rt; wrong_row(rt.alloc(), P1, MISSING)?.as_str(), "");
+    assert_eq!(rt; wrong_row(rt.alloc(), WORKED, MISSING)?.as_str(), "");
     Ok(())
 }
 
 #[test]
 fn each_refusal_has_its_place(rt: HostRuntime) -> Result<(), Fail> {
-    assert_eq!(rt; wrong_row(rt.alloc(), P1, REFUSED)?.as_str(), "");
+    assert_eq!(rt; wrong_row(rt.alloc(), WORKED, REFUSED)?.as_str(), "");
     for text in ["[]", "null", "\"plan\"", "1", "true"] {
         let top = "mmt: plan: not-object at top 0 0 0 field 0";
         assert_eq!(rt; told(rt.alloc(), text.as_bytes())?.as_str(), top, "{text}");
@@ -117,16 +117,16 @@ fn each_refusal_has_its_place(rt: HostRuntime) -> Result<(), Fail> {
 
 #[test]
 fn the_first_of_several_faults_is_told(rt: HostRuntime) -> Result<(), Fail> {
-    assert_eq!(rt; wrong_row(rt.alloc(), P1, FIRST)?.as_str(), "");
+    assert_eq!(rt; wrong_row(rt.alloc(), WORKED, FIRST)?.as_str(), "");
     Ok(())
 }
 
-// P1 with an asset of items of these MPUs before its own.
+// The worked plan with an asset of items of these MPUs before its own.
 fn with_items(alloc: Global, mpus: &str) -> Result<String, Fail> {
     let asset = format!(in alloc;
         "\"assets\":[ => \"assets\":[{{{OF_ASSET},\"file\":\"w\",\"mpus\":[{mpus}]}},"
     )?;
-    changed(alloc, P1, asset.as_str())
+    changed(alloc, WORKED, asset.as_str())
 }
 
 #[test]
@@ -150,12 +150,12 @@ fn an_item_has_a_number_and_no_access_units(rt: HostRuntime) -> Result<(), Fail>
 #[test]
 fn a_plan_is_there_and_not_too_long(rt: HostRuntime) -> Result<(), Fail> {
     let alloc = rt.alloc();
-    let mut long = vec![in alloc; b' '; 16_777_217 - P1.len()]?;
-    long.extend_from_slice(P1.as_bytes())?;
+    let mut long = vec![in alloc; b' '; 16_777_217 - WORKED.len()]?;
+    long.extend_from_slice(WORKED.as_bytes())?;
     let end = told(alloc, &long)?;
     assert_eq!(rt; end.as_str(), "mmt: plan: plan-long at top 0 0 0 field 0");
     assert_eq!(rt; told(alloc, &long[1..])?.as_str(), "mmt: plan: right");
-    let mut shelf = shelf_of(alloc, P1.as_bytes(), None, &[])?;
+    let mut shelf = shelf_of(alloc, WORKED.as_bytes(), None, &[])?;
     let end = read_plan(alloc, &mut shelf, "plan.json")
         .err()
         .ok_or("a programme")?;
@@ -167,7 +167,7 @@ fn a_plan_is_there_and_not_too_long(rt: HostRuntime) -> Result<(), Fail> {
 #[test]
 fn a_read_that_fails_ends_the_reading(rt: HostRuntime) -> Result<(), Fail> {
     for failing in [0, 1] {
-        let mut shelf = shelf_of(rt.alloc(), P1.as_bytes(), None, &[failing])?;
+        let mut shelf = shelf_of(rt.alloc(), WORKED.as_bytes(), None, &[failing])?;
         let end = read_plan(rt.alloc(), &mut shelf, "plan").err();
         assert_eq!(rt; end, Some(PlanEnd::ReadFault), "read {failing}");
     }
@@ -189,7 +189,7 @@ fn wrong_length(alloc: Global, text: &str, rows: &str) -> Result<String, Fail> {
     Ok(String::new(alloc))
 }
 
-// Lengths of the file of P1.
+// Lengths of the file of the worked plan.
 const LENGTHS: &str = "\
 3500 right
 3499 mmt: plan: unit-short at unit 0 0 1 field 3
@@ -199,13 +199,13 @@ const LENGTHS: &str = "\
 
 #[test]
 fn a_file_is_long_enough(rt: HostRuntime) -> Result<(), Fail> {
-    assert_eq!(rt; wrong_length(rt.alloc(), P1, LENGTHS)?.as_str(), "");
+    assert_eq!(rt; wrong_length(rt.alloc(), WORKED, LENGTHS)?.as_str(), "");
     Ok(())
 }
 
 #[test]
 fn a_file_is_there(rt: HostRuntime) -> Result<(), Fail> {
-    let end = files_of(rt.alloc(), P1, None, &[])?;
+    let end = files_of(rt.alloc(), WORKED, None, &[])?;
     assert_eq!(rt;
         end.as_str(),
         "mmt: plan: file-absent at asset 0 0 0 field 6"
@@ -213,12 +213,12 @@ fn a_file_is_there(rt: HostRuntime) -> Result<(), Fail> {
     Ok(())
 }
 
-// P1 with a second asset of one item in this file.
+// The worked plan with a second asset of one item in this file.
 fn with_file(alloc: Global, file: &str) -> Result<String, Fail> {
     let asset = format!(in alloc;
         "}}]}}]}}]}} => }}]}}]}},{{{OF_ASSET},\"file\":\"{file}\",\"mpus\":[{ITEMS}]}}]}}"
     )?;
-    changed(alloc, P1, asset.as_str())
+    changed(alloc, WORKED, asset.as_str())
 }
 
 // Lengths of the first asset's file, where that of the second is not there.

@@ -1,6 +1,6 @@
 //! The worked plans, and texts of all kinds.
 
-use crate::desk::{ITEMS, P1, changed, programme_of, read, replaced, told, wrong_row};
+use crate::desk::{ITEMS, WORKED, changed, programme_of, read, replaced, told, wrong_row};
 use mmt_base::{LongTick, Ntp};
 use mmt_model::{Programme, Signal, Unit, UnitKey};
 use std::alloc::Global;
@@ -23,7 +23,7 @@ fn mpu_of(programme: &Programme, place: usize) -> Option<(u32, Ntp, Unit)> {
 
 #[test]
 fn p1_is_a_programme(rt: HostRuntime) -> Result<(), Fail> {
-    let programme = programme_of(rt.alloc(), P1)?;
+    let programme = programme_of(rt.alloc(), WORKED)?;
     let unit = Unit {
         at: LongTick(65_536_300),
         from: 3000,
@@ -48,15 +48,15 @@ fn p1_is_a_programme(rt: HostRuntime) -> Result<(), Fail> {
     Ok(())
 }
 
-// What P2 has instead of P1's values and units.
-const P2: &str = r#""limit":1400 => "limit":60000
+// What a plan of one long unit has instead of the worked plan's values and units.
+const LONG_UNIT: &str = r#""limit":1400 => "limit":60000
  && "bound":4000 => "bound":20000000
  && ,[2002,0] =>  && "length":3000 => "length":16777216
  && ,{"at":300,"from":3000,"length":500,"movie_fragment":1,"sample":2,"offset":0,"priority":0,"dependency":0} => "#;
 
 #[test]
 fn p2_has_one_unit_of_16_mib(rt: HostRuntime) -> Result<(), Fail> {
-    let text = changed(rt.alloc(), P1, P2)?;
+    let text = changed(rt.alloc(), WORKED, LONG_UNIT)?;
     let programme = programme_of(rt.alloc(), text.as_str())?;
     assert_eq!(rt;
         (programme.limit, programme.params.bound),
@@ -71,7 +71,7 @@ fn p2_has_one_unit_of_16_mib(rt: HostRuntime) -> Result<(), Fail> {
 fn p3_has_a_second_table(rt: HostRuntime) -> Result<(), Fail> {
     let text = changed(
         rt.alloc(),
-        P1,
+        WORKED,
         r#"[[0,0]]} => [[0,0]]},{"at":32800,"kind":"table","names":[[0,0]]}"#,
     )?;
     let programme = programme_of(rt.alloc(), text.as_str())?;
@@ -79,8 +79,8 @@ fn p3_has_a_second_table(rt: HostRuntime) -> Result<(), Fail> {
     Ok(())
 }
 
-// What P4 has instead of the end of P1's table and of P1's MPU.
-const P4: &str = r#"[[0,0]]} => [[0,0]]},
+// What a plan over 18 hours has instead of the end of the worked plan's table and of its MPU.
+const OVER_HOURS: &str = r#"[[0,0]]} => [[0,0]]},
 {"at":536870912,"kind":"parameters"},{"at":1073741824,"kind":"parameters"},
 {"at":1610612736,"kind":"parameters"},{"at":2147483648,"kind":"parameters"},
 {"at":2684354560,"kind":"parameters"},{"at":3221225472,"kind":"parameters"},
@@ -93,7 +93,7 @@ const P4: &str = r#"[[0,0]]} => [[0,0]]},
 
 #[test]
 fn p4_is_more_than_2_to_32_ticks_long(rt: HostRuntime) -> Result<(), Fail> {
-    let text = changed(rt.alloc(), P1, P4)?;
+    let text = changed(rt.alloc(), WORKED, OVER_HOURS)?;
     let programme = programme_of(rt.alloc(), text.as_str())?;
     assert_eq!(rt; programme.signals.len(), 11);
     assert_eq!(rt; tick_of(&programme, 9), Some(LongTick(4_360_503_296)));
@@ -126,7 +126,7 @@ fn files_are_numbered_as_they_are_first_seen(rt: HostRuntime) -> Result<(), Fail
         )?;
         changes.push_str(asset.as_str())?;
     }
-    let text = changed(alloc, P1, changes.as_str())?;
+    let text = changed(alloc, WORKED, changes.as_str())?;
     let programme = programme_of(alloc, text.as_str())?;
     assert_eq!(rt;
         files_in(alloc, &programme)?.as_str(),
@@ -139,7 +139,7 @@ fn files_are_numbered_as_they_are_first_seen(rt: HostRuntime) -> Result<(), Fail
 fn a_name_has_escapes_and_characters_of_many_bytes(rt: HostRuntime) -> Result<(), Fail> {
     let text = changed(
         rt.alloc(),
-        P1,
+        WORKED,
         r#""v.bin" => "\u0076\n\/\"é日\ud83d\ude00" && "p1" => "é""#,
     )?;
     let programme = programme_of(rt.alloc(), text.as_str())?;
@@ -153,11 +153,11 @@ fn a_name_has_escapes_and_characters_of_many_bytes(rt: HostRuntime) -> Result<()
 fn the_last_of_two_equal_members_counts(rt: HostRuntime) -> Result<(), Fail> {
     let rows = r#""limit":1400 => "limit":"x","l\u0069mit":64 @ right
 "limit":1400 => "limit":1400,"limit":63 @ value at top 0 0 0 field 5"#;
-    assert_eq!(rt; wrong_row(rt.alloc(), P1, rows)?.as_str(), "");
+    assert_eq!(rt; wrong_row(rt.alloc(), WORKED, rows)?.as_str(), "");
     Ok(())
 }
 
-// P1's members moved in their objects, with white space.
+// The worked plan's members moved in their objects, with white space.
 const MOVED: &str = r#"{"at":0,"kind":"parameters"} =>  {
 "kind" : "parameters" , "at":0}
  && "packet_id":256, =>  && "number":7, =>  && "at":200,"from":0, => "from":0,
@@ -175,10 +175,10 @@ fn shown(alloc: Global, text: &str) -> Result<String, Fail> {
 
 #[test]
 fn members_stand_in_any_order(rt: HostRuntime) -> Result<(), Fail> {
-    let text = changed(rt.alloc(), P1, MOVED)?;
+    let text = changed(rt.alloc(), WORKED, MOVED)?;
     let text = replaced(rt.alloc(), text.as_str(), "\"kind\" :", "\"kind\"\t:\r\n")?;
     let moved = shown(rt.alloc(), text.as_str())?;
-    let same = shown(rt.alloc(), P1)?;
+    let same = shown(rt.alloc(), WORKED)?;
     assert_eq!(rt; moved.as_str(), same.as_str());
     Ok(())
 }
@@ -188,11 +188,11 @@ const NO_JSON: &str = "mmt: plan: not-json at top 0 0 0 field 0";
 
 #[test]
 fn each_prefix_of_a_plan_is_no_json(rt: HostRuntime) -> Result<(), Fail> {
-    for end in 0..P1.len() {
-        let plan = &P1.as_bytes()[..end];
+    for end in 0..WORKED.len() {
+        let plan = &WORKED.as_bytes()[..end];
         assert_eq!(rt; told(rt.alloc(), plan)?.as_str(), NO_JSON, "{end} bytes");
     }
-    assert!(rt; read(rt.alloc(), P1.as_bytes())?.is_ok());
+    assert!(rt; read(rt.alloc(), WORKED.as_bytes())?.is_ok());
     Ok(())
 }
 
@@ -210,7 +210,7 @@ fn texts_that_are_no_json_are_told(rt: HostRuntime) -> Result<(), Fail> {
     Ok(())
 }
 
-// P1 with a member that nests so many arrays, in an object that is one level itself.
+// The worked plan with a member that nests so many arrays, in an object that is one level itself.
 fn nested(alloc: Global, levels: usize) -> Result<String, Fail> {
     let open = String::from_utf8(vec![in alloc; b'['; levels]?)
         .ok()
@@ -219,7 +219,7 @@ fn nested(alloc: Global, levels: usize) -> Result<String, Fail> {
         .ok()
         .ok_or("no text")?;
     let change = format!(in alloc; "{{\"flow\" => {{\"deep\":{open}{close},\"flow\"")?;
-    changed(alloc, P1, change.as_str())
+    changed(alloc, WORKED, change.as_str())
 }
 
 #[test]
