@@ -68,10 +68,10 @@ part-of (Out bytes ∷ []) (p ∷ packets) f =
       unread = refl;
       quiet = refl;
     }
-part-of (Out bytes ∷ []) [] f = absurd (f tt)
-part-of (In bytes ∷ events) packets f = absurd (f tt)
-part-of (Note bytes ∷ events) packets f = absurd (f tt)
-part-of (Out bytes ∷ event ∷ events) packets f = absurd (f tt)
+part-of (Out bytes ∷ []) [] f = absurd f
+part-of (In bytes ∷ events) packets f = absurd f
+part-of (Note bytes ∷ events) packets f = absurd f
+part-of (Out bytes ∷ event ∷ events) packets f = absurd f
 
 written-then : (ps : List Packet) (last : List Event) → bytes_written (pieces ps ++ last) ≡ joined ps ++ bytes_written last
 written-then [] last = refl
