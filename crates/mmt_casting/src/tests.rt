@@ -99,19 +99,26 @@ fn units_are_gathered_and_numbers_follow_the_plan(rt: HostRuntime) -> Result<(),
     Ok(())
 }
 
+// Four long units, each in 262,144 parts of 64 bytes that are sent 10 ticks apart, and a unit in 8 parts.
+const LONG_UNITS: &str = r#""limit":1400 => "limit":64 && "length":3000 => "length":16777216
+ && "units":[ => "units":[
+{"at":200,"from":0,"length":16777216,"movie_fragment":1,"sample":3,"offset":0,"priority":0,"dependency":0},
+{"at":300,"from":0,"length":16777216,"movie_fragment":1,"sample":4,"offset":0,"priority":0,"dependency":0},
+{"at":400,"from":0,"length":16777216,"movie_fragment":1,"sample":5,"offset":0,"priority":0,"dependency":0},"#;
+
 #[test]
-fn numbers_go_on_past_65535(rt: HostRuntime) -> Result<(), Fail> {
-    let changes = "\"limit\":1400 => \"limit\":64 && \"length\":3000 => \"length\":16777216";
-    let plan = changed(rt.alloc(), WORKED, changes)?;
+fn a_cast_of_a_million_packets(rt: HostRuntime) -> Result<(), Fail> {
+    let plan = changed(rt.alloc(), WORKED, LONG_UNITS)?;
     let programme = programme_of(rt.alloc(), plan.as_str())?;
     let cast = cast_of(rt.alloc(), &programme).ok().ok_or("no cast")?;
-    // 262,144 parts of 64 bytes, 10 ticks apart, and 8 parts of the other unit.
     let packets = cast.packets.as_slice();
     let last = packets.last().ok_or("no packet")?;
-    assert_eq!(rt; packets.len(), 3 + 262_144 + 8);
+    // A buffer message, and a table in 2 parts.
+    assert_eq!(rt; packets.len(), 3 + 4 * 262_144 + 8);
+    // The last part of the third unit, after those of two others.
     assert_eq!(rt;
         packet_told(rt.alloc(), last)?.as_str(),
-        "68157630 256 262143 86 fragment 0 262143"
+        "68157830 256 786431 86 fragment 2 262143"
     );
     Ok(())
 }

@@ -148,7 +148,7 @@ fn worked(alloc: Global) -> Result<Programme, OutOfMemory>
 {
     Ok(Programme {
         flow: Flow {
-            address: 0xFF00_0000_0000_0000_0000_0000_0000_0001,
+            address: 0xFF0E_0000_0000_0000_0000_0000_0000_0101,
             port: 51_300,
         },
         source: Flow {
