@@ -56,13 +56,13 @@ fn an_mpu_is_named_from_its_first_table(rt: HostRuntime) -> Result<(), Fail> {
 // gathered, the one of the later sample first; a cut one follows, and two short ones of different ticks. The
 // next MPU has a short unit of the last tick, which is not gathered with that of the MPU before it. A second
 // asset has three items of one tick, the third of which does not go into the payload of the first two.
-const PLAN_M: &str = r#""limit":1400 => "limit":100
+const MIXED_PLAN: &str = r#""limit":1400 => "limit":100
  && [[0,0]]} => [[0,0],[0,1],[1,0]]},{"at":50,"kind":"table","names":[[1,0]]}
  && {"at":200,"from":0,"length":3000,"movie_fragment":1,"sample":1 => {"at":300,"from":0,"length":20,"movie_fragment":1,"sample":2,"offset":0,"priority":0,"dependency":0},{"at":300,"from":20,"length":30,"movie_fragment":1,"sample":1,"offset":0,"priority":0,"dependency":0},{"at":300,"from":50,"length":250,"movie_fragment":1,"sample":3
  && "from":3000,"length":500 => "from":300,"length":10
  && }]}]}]} => },{"at":310,"from":310,"length":10,"movie_fragment":1,"sample":3,"offset":0,"priority":0,"dependency":0}]},{"number":8,"time":4297114779648,"decoding_offset":0,"aus":[],"units":[{"at":310,"from":320,"length":10,"movie_fragment":2,"sample":1,"offset":0,"priority":0,"dependency":0}]}]},{"packet_id":255,"id":"w","type":"aapp","timed":false,"timescale":1,"file":"v.bin","mpus":[{"number":1,"time":4297114779649,"decoding_offset":0,"aus":[],"units":[{"at":300,"from":0,"length":44,"item":1},{"at":300,"from":44,"length":44,"item":2},{"at":300,"from":88,"length":1,"item":3}]}]}]}"#;
 
-const CAST_M: &str = "\
+const MIXED_CAST: &str = "\
 65536000 0 0 19 parameters 0
 65536050 0 3 76 table 2
 65536100 0 1 102 part 1 0
@@ -94,8 +94,8 @@ copy 2 65536050 65536050 3 1 names 2
 
 #[test]
 fn units_are_gathered_and_numbers_follow_the_plan(rt: HostRuntime) -> Result<(), Fail> {
-    let plan = changed(rt.alloc(), WORKED, PLAN_M)?;
-    assert_eq!(rt; told(rt.alloc(), plan.as_str())?.as_str(), CAST_M);
+    let plan = changed(rt.alloc(), WORKED, MIXED_PLAN)?;
+    assert_eq!(rt; told(rt.alloc(), plan.as_str())?.as_str(), MIXED_CAST);
     Ok(())
 }
 
@@ -124,11 +124,11 @@ fn a_cast_of_a_million_packets(rt: HostRuntime) -> Result<(), Fail> {
 }
 
 // Buffer messages 2^29 ticks apart, and a table and an MPU after 2^32 ticks.
-const PLAN_4: &str =
+const LONG_PLAN: &str =
     r#"[[0,0]]} => [[0,0]]},{"at":2147483648,"kind":"parameters"},{"at":4294967396,"kind":"table","names":[[0,1]]}
  && }]}]}]} => }]},{"number":8,"time":285772091490304,"decoding_offset":1001,"aus":[[1001,1001]],"units":[{"at":4294967496,"from":0,"length":500,"movie_fragment":2,"sample":1,"offset":0,"priority":0,"dependency":0}]}]}]}"#;
 
-const CAST_4: &str = "\
+const LONG_CAST: &str = "\
 65536000 0 0 19 parameters 0
 65536100 0 1 82 table 1
 65536200 256 0 1422 rap fragment 0 0
@@ -149,7 +149,7 @@ copy 3 4360503396 4360503396 3 1 names 1
 
 #[test]
 fn ticks_do_not_wrap(rt: HostRuntime) -> Result<(), Fail> {
-    let plan = changed(rt.alloc(), WORKED, PLAN_4)?;
-    assert_eq!(rt; told(rt.alloc(), plan.as_str())?.as_str(), CAST_4);
+    let plan = changed(rt.alloc(), WORKED, LONG_PLAN)?;
+    assert_eq!(rt; told(rt.alloc(), plan.as_str())?.as_str(), LONG_CAST);
     Ok(())
 }

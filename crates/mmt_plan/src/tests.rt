@@ -22,7 +22,7 @@ fn mpu_of(programme: &Programme, place: usize) -> Option<(u32, Ntp, Unit)> {
 }
 
 #[test]
-fn p1_is_a_programme(rt: HostRuntime) -> Result<(), Fail> {
+fn the_worked_plan_is_a_programme(rt: HostRuntime) -> Result<(), Fail> {
     let programme = programme_of(rt.alloc(), WORKED)?;
     let unit = Unit {
         at: LongTick(65_536_300),
@@ -55,7 +55,7 @@ const LONG_UNIT: &str = r#""limit":1400 => "limit":60000
  && ,{"at":300,"from":3000,"length":500,"movie_fragment":1,"sample":2,"offset":0,"priority":0,"dependency":0} => "#;
 
 #[test]
-fn p2_has_one_unit_of_16_mib(rt: HostRuntime) -> Result<(), Fail> {
+fn a_plan_of_one_unit_of_16_mib(rt: HostRuntime) -> Result<(), Fail> {
     let text = changed(rt.alloc(), WORKED, LONG_UNIT)?;
     let programme = programme_of(rt.alloc(), text.as_str())?;
     assert_eq!(rt;
@@ -68,7 +68,7 @@ fn p2_has_one_unit_of_16_mib(rt: HostRuntime) -> Result<(), Fail> {
 }
 
 #[test]
-fn p3_has_a_second_table(rt: HostRuntime) -> Result<(), Fail> {
+fn a_plan_with_a_second_table(rt: HostRuntime) -> Result<(), Fail> {
     let text = changed(
         rt.alloc(),
         WORKED,
@@ -92,7 +92,7 @@ const OVER_HOURS: &str = r#"[[0,0]]} => [[0,0]]},
 ]}]}]}"#;
 
 #[test]
-fn p4_is_more_than_2_to_32_ticks_long(rt: HostRuntime) -> Result<(), Fail> {
+fn a_plan_that_is_more_than_2_to_32_ticks_long(rt: HostRuntime) -> Result<(), Fail> {
     let text = changed(rt.alloc(), WORKED, OVER_HOURS)?;
     let programme = programme_of(rt.alloc(), text.as_str())?;
     assert_eq!(rt; programme.signals.len(), 11);
