@@ -70,7 +70,7 @@ impl Model for Buffer {
 impl Buffer {
     ghost use Rattle.mmt_peak.specs.Buffers.{HasTaken};
 
-    /// An empty buffer of so many payload bytes, with a delay and a window in ticks.
+    /// An empty buffer for `params.bound` payload bytes, with a delay and a window in ticks.
     pub fn new(alloc: Global, params: Params) -> Result<Buffer, OutOfMemory>
         ensures params { IfOk result (λ b. b.params ≡ params) }
         ensures empty { IfOk result (λ b. HasTaken [] b) }
@@ -95,7 +95,7 @@ impl Buffer {
     /// signalling packet with a payload is stored, late, a repeat or without room. Where there is no
     /// memory the buffer is used no more.
     pub fn take(&mut self, packet: &Packet<'_>) -> Result<(), OutOfMemory>
-        requires { length packet.now.payload.now < 2 ^ 31 }
+        requires { length packet.now.payload.now < 2 ^ 16 }
         ensures params { self.new.params ≡ self.old.params }
         ensures taken { OnOk result ((history : List Heard) → HasTaken history self.old → HasTaken (offered (view packet.now) ∷ history) self.new) }
     {
@@ -106,9 +106,7 @@ impl Buffer {
         if !is_offered(packet) {
             return Ok(());
         }
-        let answer = self
-            .pool
-            .store(clock, self.params.delay, packet.payload, 0, packet);
+        let answer = self.pool.count(clock, self.params.delay, packet);
         self.counts = with_answer(self.counts, answer)?;
         Ok(())
     }

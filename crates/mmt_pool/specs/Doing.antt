@@ -1,5 +1,5 @@
 -- What the calls of a pool do.
-use Rattle.std.specs.Prelude.{◌≡◌, ℕ, ◌+◌, ◌<◌, max, true, false, List, length, Option, Some, None, Result, Ok, Err}
+use Rattle.std.specs.Prelude.{◌≡◌, ℕ, ◌+◌, ◌<◌, max, true, false, List, length, replicate, Option, Some, None, Result, Ok, Err}
 use Rattle.std.specs.List.{AllByRecursion, list_any}
 use Rattle.mmt_packet.specs.declared.packet.Kind.{Kind}
 use Rattle.mmt_packet.specs.declared.packet.Packet.{Packet}
@@ -14,6 +14,10 @@ use Rattle.mmt_pool.specs.Outcome.{pool_outcome}
 -- an MMTP packet as a kept one (ISO/IEC 23008-1, the MMTP packet)
 abbrev pub of_packet : Packet → Kept
 of_packet p = record { packet_id = p.packet_id; number = p.number; time = p.time.0; kind = p.kind; payload = p.payload.now }
+
+-- an MMTP packet as a kept one with zeros in place of its payload bytes (this project's rule)
+abbrev pub blank : Packet → Kept
+blank p = record (of_packet p) { payload = replicate (length p.payload.now) 0 }
 
 -- a kept packet of this span, with its timestamp in ticks, kind and payload bytes (this project's rule)
 abbrev pub kept_as : Span → ℕ → Kind → List ℕ → Kept

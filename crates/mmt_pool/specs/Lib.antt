@@ -4,3 +4,4 @@ pub mod Queue
 pub mod Tied
 pub mod Outcome
 pub mod Doing
+pub mod Sources

@@ -47,6 +47,17 @@ impl Model for Pool {
     ghost invariant = { λ a. IsKept a.packets.entries a.queue a.total a.bound a.peak };
 }
 
+// As many zero bytes as a payload has at most.
+static ZEROS: [u8; 65_536] = [0; 65_536];
+
+// Where the bytes come from that a kept packet has as its payload: from a TLV packet, from `from` on,
+// or they are zeros.
+#[derive(Clone, Copy)]
+enum Source<'a> {
+    Tlv { bytes: &'a [u8], from: u32 },
+    Zeros,
+}
+
 // The part of a TLV packet from `from` on, in a buffer that the whole packet is copied into once.
 fn cut(alloc: Global, tlv: &[u8], from: usize, count: usize) -> Result<Bytes, OutOfMemory>
     requires { from + count ≤ length tlv.now }
@@ -58,16 +69,42 @@ fn cut(alloc: Global, tlv: &[u8], from: usize, count: usize) -> Result<Bytes, Ou
     Ok(payload)
 }
 
+// This many zeros.
+fn zeros(count: usize) -> &'static [u8]
+    requires { count ≤ 65536 }
+    ensures { result.now ≡ replicate count 0 }
+{
+    &ZEROS[..count]
+}
+
+// The bytes of a payload that the source gives.
+fn payload_from(
+    alloc: Global,
+    source: Source<'_>,
+    payload: &[u8],
+) -> Result<Bytes, OutOfMemory>
+    requires { Gives source payload.now }
+    ensures { IfOk result (λ bytes. bytes ≡ payload.now) }
+{
+    match source {
+        Source::Tlv { bytes, from } => cut(alloc, bytes, from as usize, payload.len()),
+        Source::Zeros => Ok(Bytes::from_static(zeros(payload.len()))),
+    }
+}
+
+ghost use Rattle.std.specs.Prelude.{replicate};
+ghost use Rattle.mmt_pool.specs.Sources.{Gives};
+
 impl Pool {
     ghost use Rattle.mmt_pool.specs.Holding.{Kept, Holding, IsSound, IsKeepable, held, payload_at, kind_at, packet_at, is_at, is_kept_kind, is_in_window, IsInOrder, HasPart, part_at, LiesAt};
-    ghost use Rattle.mmt_pool.specs.Doing.{Keeps, Stores, Expires, of_packet, span_of};
+    ghost use Rattle.mmt_pool.specs.Doing.{Keeps, Stores, Expires, blank, of_packet, span_of};
     ghost use Rattle.mmt_pool.specs.Outcome.{Follows};
 
     /// An empty pool, for at most `bound` payload bytes.
     ///
     /// # Errors
     ///
-    /// Want of memory.
+    /// Out of memory.
     pub fn new(alloc: Global, bound: u32) -> Result<Pool, OutOfMemory>
         ensures { IfOk result (λ pool. pool ≡ record { kept = []; bound = bound; peak = 0 }) }
     {
@@ -105,13 +142,12 @@ impl Pool {
     fn keep(
         &mut self,
         span: Span,
-        tlv: &[u8],
-        from: u32,
+        source: Source<'_>,
         packet: &Packet<'_>,
     ) -> Result<(), NotStored>
         requires span { span ≡ span_of (of_packet packet.now) }
-        requires short { length tlv.now < 2 ^ 31 }
-        requires payload { LiesAt tlv.now from packet.now.payload.now }
+        requires short { length packet.now.payload.now < 2 ^ 31 }
+        requires payload { Gives source packet.now.payload.now }
         requires kind { is_kept_kind packet.now.kind ≡ true }
         ensures keeps { Keeps self.old (of_packet packet.now) result self.new }
         ensures sound { IsSound self.new }
@@ -133,7 +169,7 @@ impl Pool {
         if is_full {
             return Err(NotStored::Full { held, length });
         }
-        let payload = match cut(self.alloc, tlv, from as usize, packet.payload.len()) {
+        let payload = match payload_from(self.alloc, source, packet.payload) {
             Ok(payload) => payload,
             Err(_) => return Err(NotStored::OutOfMemory),
         };
@@ -151,12 +187,43 @@ impl Pool {
         Ok(())
     }
 
+    // Keeps a packet with the payload that the source gives.
+    fn offer(
+        &mut self,
+        clock: Tick,
+        delay: u32,
+        source: Source<'_>,
+        packet: &Packet<'_>,
+    ) -> Result<Span, NotStored>
+        requires short { length packet.now.payload.now < 2 ^ 31 }
+        requires payload { Gives source packet.now.payload.now }
+        requires kind { is_kept_kind packet.now.kind ≡ true }
+        ensures stores { Stores self.old clock.0 delay (of_packet packet.now) result self.new }
+        ensures bounded { held self.new.kept ≤ self.new.bound }
+        ensures in_order { IsInOrder self.new.kept }
+        ensures peak { self.new.peak ≡ max self.old.peak (held self.new.kept) }
+        ensures model { Follows self.old clock.0 delay (of_packet packet.now) result self.new }
+    {
+        let _ = &self.total;
+        if clock.is_after(packet.time.plus(delay)) {
+            return Err(NotStored::Late { clock });
+        }
+        let span = Span {
+            packet_id: packet.packet_id,
+            number: packet.number,
+        };
+        match self.keep(span, source, packet) {
+            Ok(()) => Ok(span),
+            Err(refusal) => Err(refusal),
+        }
+    }
+
     /// Keeps a copy of a packet's payload, which stands in the TLV packet `tlv` at `from`. Ticks
     /// are of 1/65536 second.
     ///
     /// # Errors
     ///
-    /// The first that holds of `Late`, `Repeat` and `Full`, and last want of memory; the pool then
+    /// The first that holds of `Late`, `Repeat` and `Full`, and last out of memory; the pool then
     /// stays as it was.
     pub fn store(
         &mut self,
@@ -175,18 +242,32 @@ impl Pool {
         ensures peak { self.new.peak ≡ max self.old.peak (held self.new.kept) }
         ensures model { Follows self.old clock.0 delay (of_packet packet.now) result self.new }
     {
-        let _ = &self.total;
-        if clock.is_after(packet.time.plus(delay)) {
-            return Err(NotStored::Late { clock });
-        }
-        let span = Span {
-            packet_id: packet.packet_id,
-            number: packet.number,
-        };
-        match self.keep(span, tlv, from, packet) {
-            Ok(()) => Ok(span),
-            Err(refusal) => Err(refusal),
-        }
+        self.offer(clock, delay, Source::Tlv { bytes: tlv, from }, packet)
+    }
+
+    /// Keeps a packet as `store` does, but with zeros in place of its payload bytes, and takes no memory
+    /// for them: for those who count payload bytes and read none. Ticks are of 1/65536 second.
+    ///
+    /// # Errors
+    ///
+    /// Those of `store`.
+    pub fn count(
+        &mut self,
+        clock: Tick,
+        delay: u32,
+        packet: &Packet<'_>,
+    ) -> Result<Span, NotStored>
+        requires short { length packet.now.payload.now ≤ 65536 }
+        requires kind { is_kept_kind packet.now.kind ≡ true }
+        ensures stores { Stores self.old clock.0 delay (blank packet.now) result self.new }
+        ensures bounded { held self.new.kept ≤ self.new.bound }
+        ensures in_order { IsInOrder self.new.kept }
+        ensures peak { self.new.peak ≡ max self.old.peak (held self.new.kept) }
+        ensures model { Follows self.old clock.0 delay (blank packet.now) result self.new }
+    {
+        let payload = zeros(packet.payload.len());
+        let blank = Packet { payload, ..*packet };
+        self.offer(clock, delay, Source::Zeros, &blank)
     }
 
     /// Takes out one packet whose timestamp plus the window is not after the clock; `None` where
@@ -236,7 +317,7 @@ impl Pool {
         Some((stored.kind, &stored.payload))
     }
 
-    /// So many bytes of a kept packet's payload from `from` on, lent.
+    /// `length` bytes of a kept packet's payload from `from` on, lent.
     pub fn part(&self, span: Span, from: u32, length: u32) -> &[u8]
         requires { HasPart self.now.kept span.packet_id span.number from length }
         ensures { part_at self.now.kept span.packet_id span.number from length ≡ Some result.now }

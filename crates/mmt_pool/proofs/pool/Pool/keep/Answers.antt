@@ -40,8 +40,8 @@ returns-then-is_full-2-clause-keeps c =
     let b : c.self.inside.bound ≡ c.args.self.now.bound = ap (λ w. w.bound) c.self.view_is in
     (any_of false (of_packet c.args.packet.now) c.args.span c.self.inside.packets.entries c.args.self.now _ _ c.requires.span c.self.view_is (ap is_some f), omega (arith, t, b, c.if-is_full-2.true), t, refl, unchanged _ c.self.inside.packets.entries _ _ _ c.self.view_is (search rules))
 
-pub returns-in-Err-cut-clause-keeps : goal.returns-in-Err-cut-clause-keeps
-returns-in-Err-cut-clause-keeps c =
+pub returns-in-Err-payload_from-clause-keeps : goal.returns-in-Err-payload_from-clause-keeps
+returns-in-Err-payload_from-clause-keeps c =
     let f = rw c.in-Ok-Vacant.field-0-is at c.in-Ok-Vacant.ensures.found in
     let t : c.self.inside.total ≡ held c.args.self.now.kept = c.self.invariant.sum ∙ ap (λ w. held w.kept) c.self.view_is in
     let b : c.self.inside.bound ≡ c.args.self.now.bound = ap (λ w. w.bound) c.self.view_is in
@@ -79,7 +79,7 @@ invariant_of-self-2 c =
     let f = rw c.in-Ok-Vacant.field-0-is at c.in-Ok-Vacant.ensures.found in
     let u = rw c.in-Ok-Vacant.field-0-is at c.in-Ok-Vacant.ensures.update in
     let w = c.insert_entry.ensures.1 in
-    let e : c.in-Ok.payload ≡ c.args.packet.now.payload.now = c.in-Ok.ensures ∙ c.requires.payload.same in
+    let e : c.in-Ok.payload ≡ c.args.packet.now.payload.now = c.in-Ok.ensures in
     let same : entry_of (c.args.span, v) ≡ p = same_packet c.args.span v p c.requires.span refl refl e in
     let t : c.self.inside.total ≡ held c.args.self.now.kept = c.self.invariant.sum ∙ ap (λ w. held w.kept) c.self.view_is in
     let b : c.self.inside.bound ≡ c.args.self.now.bound = ap (λ w. w.bound) c.self.view_is in
@@ -88,7 +88,7 @@ invariant_of-self-2 c =
       absent = any_of false p c.args.span es c.args.self.now _ _ c.requires.span c.self.view_is (ap is_some f);
       room = omega (arith, t, b, m, c.if-is_full-2.false);
     } in
-    let k : IsKeepable p = record { kind = c.requires.kind; number = omega (arith, ap (λ (x : Span). x.number) c.requires.span); short = omega (arith, c.requires.payload.fits, c.requires.short) } in
+    let k : IsKeepable p = record { kind = c.requires.kind; number = omega (arith, ap (λ (x : Span). x.number) c.requires.span); short = c.requires.short } in
     kept_new c.args.span v es _ _ c.self.inside.queue c.put.new.self c.self.inside.total c.self.inside.bound c.self.inside.peak c.max-self-inside.result (length c.args.packet.now.payload.now) c.args.self.now p same c.self.view_is (ap length e) c.self.invariant f (search rules) (u.1 v) (u.0 v).0 c.in_default.ensures.ok c.max-self-inside.ensures r k
 
 pub returns-clause-sound : goal.returns-clause-sound
@@ -99,7 +99,7 @@ returns-clause-sound c =
     let f = rw c.in-Ok-Vacant.field-0-is at c.in-Ok-Vacant.ensures.found in
     let u = rw c.in-Ok-Vacant.field-0-is at c.in-Ok-Vacant.ensures.update in
     let w = c.insert_entry.ensures.1 in
-    let e : c.in-Ok.payload ≡ c.args.packet.now.payload.now = c.in-Ok.ensures ∙ c.requires.payload.same in
+    let e : c.in-Ok.payload ≡ c.args.packet.now.payload.now = c.in-Ok.ensures in
     let same : entry_of (c.args.span, v) ≡ p = same_packet c.args.span v p c.requires.span refl refl e in
     let t : c.self.inside.total ≡ held c.args.self.now.kept = c.self.invariant.sum ∙ ap (λ w. held w.kept) c.self.view_is in
     let b : c.self.inside.bound ≡ c.args.self.now.bound = ap (λ w. w.bound) c.self.view_is in
@@ -108,7 +108,7 @@ returns-clause-sound c =
       absent = any_of false p c.args.span es c.args.self.now _ _ c.requires.span c.self.view_is (ap is_some f);
       room = omega (arith, t, b, m, c.if-is_full-2.false);
     } in
-    let k : IsKeepable p = record { kind = c.requires.kind; number = omega (arith, ap (λ (x : Span). x.number) c.requires.span); short = omega (arith, c.requires.payload.fits, c.requires.short) } in
+    let k : IsKeepable p = record { kind = c.requires.kind; number = omega (arith, ap (λ (x : Span). x.number) c.requires.span); short = c.requires.short } in
     (kept_new c.args.span v es _ _ c.self.inside.queue c.put.new.self c.self.inside.total c.self.inside.bound c.self.inside.peak c.max-self-inside.result (length c.args.packet.now.payload.now) c.args.self.now p same c.self.view_is (ap length e) c.self.invariant f (search rules) (u.1 v) (u.0 v).0 c.in_default.ensures.ok c.max-self-inside.ensures r k).sound
 
 pub returns-clause-keeps : goal.returns-clause-keeps
@@ -119,7 +119,7 @@ returns-clause-keeps c =
     let f = rw c.in-Ok-Vacant.field-0-is at c.in-Ok-Vacant.ensures.found in
     let u = rw c.in-Ok-Vacant.field-0-is at c.in-Ok-Vacant.ensures.update in
     let w = c.insert_entry.ensures.1 in
-    let e : c.in-Ok.payload ≡ c.args.packet.now.payload.now = c.in-Ok.ensures ∙ c.requires.payload.same in
+    let e : c.in-Ok.payload ≡ c.args.packet.now.payload.now = c.in-Ok.ensures in
     let same : entry_of (c.args.span, v) ≡ p = same_packet c.args.span v p c.requires.span refl refl e in
     let t : c.self.inside.total ≡ held c.args.self.now.kept = c.self.invariant.sum ∙ ap (λ w. held w.kept) c.self.view_is in
     let b : c.self.inside.bound ≡ c.args.self.now.bound = ap (λ w. w.bound) c.self.view_is in

@@ -5,7 +5,7 @@ use Rattle.mmt_pool.specs.Holding.{IsSound}
 use Rattle.mmt_pool.specs.Doing.{of_packet, span_of, Stores}
 use Rattle.mmt_pool.proofs.Kept.{pool_outcome-late, keeps-stores, peak-stores}
 use Rattle.mmt_pool.proofs.Model.{follows-stores}
-use Rattle.mmt_pool.proofs.pool.Pool.store.Goals as goal
+use Rattle.mmt_pool.proofs.pool.Pool.offer.Goals as goal
 
 pub returns-then-is_after-clause-stores : goal.returns-then-is_after-clause-stores
 returns-then-is_after-clause-stores c = (pool_outcome-late _ _ _ (of_packet c.args.packet.now) (rw c.plus.ensures at (sym c.if-is_after.ensures)), refl, refl)
