@@ -31,7 +31,7 @@ span_of p = record { packet_id = p.packet_id; number = p.number }
 abbrev pub with_packet : Holding → Kept → Holding
 with_packet h p = record { kept = insert_by is_before p h.kept; bound = h.bound; peak = max h.peak (held h.kept + length p.payload) }
 
--- what becomes of a packet that is in time: Repeat where its packet id and number are kept, otherwise Full where the kept payload bytes and its own are more than the bound, with both sums, otherwise it is kept or memory is wanting; a refusal leaves the pool as it was (this project's rule)
+-- what becomes of a packet that is in time: Repeat where its packet id and number are kept, otherwise Full where the kept payload bytes and its own are more than the bound, with both sums, otherwise it is kept or there is no memory for it; a refusal leaves the pool as it was (this project's rule)
 abbrev pub Keeps : Holding → Kept → Result Unit NotStored → Holding → Type 0
 Keeps old p (Ok done) new = HasRoom old p × (new ≡ with_packet old p)
 Keeps old p (Err (why.Late now)) new = ⊥

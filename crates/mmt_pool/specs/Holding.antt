@@ -63,11 +63,11 @@ payload_at kept id number = option_map (λ p. p.payload) (packet_at kept id numb
 abbrev pub kind_at : List Kept → ℕ → ℕ → Option Kind
 kind_at kept id number = option_map (λ p. p.kind) (packet_at kept id number)
 
--- the packet is kept, and so many bytes from there on lie in its payload (this project's rule)
+-- the packet is kept, and `count` bytes from there on lie in its payload (this project's rule)
 abbrev pub HasPart : List Kept → ℕ → ℕ → ℕ → ℕ → Type 0
 HasPart kept id number from count = IsSomeAnd (payload_at kept id number) (λ bytes. from + count ≤ length bytes)
 
--- so many bytes of its payload from there on (this project's rule)
+-- `count` bytes of its payload from there on (this project's rule)
 abbrev pub part_at : List Kept → ℕ → ℕ → ℕ → ℕ → Option (List ℕ)
 part_at kept id number from count = option_map (λ bytes. take count (drop from bytes)) (payload_at kept id number)
 

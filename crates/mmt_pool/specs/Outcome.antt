@@ -25,7 +25,7 @@ pub record Shows (heard : Kept → Heard) : Type 0 where
   pub number : (p : Kept) → (heard p).number ≡ p.number
   pub length : (p : Kept) → (heard p).length ≡ length p.payload
 
--- the model's outcome that an answer tells of; want of memory tells of none
+-- the model's outcome that an answer tells of; out of memory tells of none
 abbrev pub answer_outcome : Result Span NotStored → Option Outcome
 answer_outcome (Ok span) = Some Outcome.Stored
 answer_outcome (Err (why.Late now)) = Some Outcome.Late
@@ -33,7 +33,7 @@ answer_outcome (Err why.Repeat) = Some Outcome.Repeat
 answer_outcome (Err (why.Full sum length')) = Some Outcome.Full
 answer_outcome (Err why.OutOfMemory) = None
 
--- the answer tells of the model's outcome and what is kept is what the model keeps then; where memory was wanting, the model stores the packet and what is kept is as it was
+-- the answer tells of the model's outcome and what is kept is what the model keeps then; where there was no memory, the model stores the packet and what is kept is as it was
 abbrev pub Agrees : Params → ℕ → List Heard → Heard → Option Outcome → List Heard → Type 0
 Agrees r clock rest h (Some f) next = (outcome r clock rest h ≡ f) × (next ≡ kept_after (outcome r clock rest h) rest h)
 Agrees r clock rest h None next = (outcome r clock rest h ≡ Outcome.Stored) × (next ≡ rest)

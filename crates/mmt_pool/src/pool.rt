@@ -78,11 +78,7 @@ fn zeros(count: usize) -> &'static [u8]
 }
 
 // The bytes of a payload that the source gives.
-fn payload_from(
-    alloc: Global,
-    source: Source<'_>,
-    payload: &[u8],
-) -> Result<Bytes, OutOfMemory>
+fn payload_from(alloc: Global, source: Source<'_>, payload: &[u8]) -> Result<Bytes, OutOfMemory>
     requires { Gives source payload.now }
     ensures { IfOk result (λ bytes. bytes ≡ payload.now) }
 {
@@ -139,12 +135,7 @@ impl Pool {
 
     // Keeps a packet that is in time. One search finds whether its span is kept and where it goes, and
     // makes the room for it there; so the queue is the last that takes memory, and there is nothing to undo.
-    fn keep(
-        &mut self,
-        span: Span,
-        source: Source<'_>,
-        packet: &Packet<'_>,
-    ) -> Result<(), NotStored>
+    fn keep(&mut self, span: Span, source: Source<'_>, packet: &Packet<'_>) -> Result<(), NotStored>
         requires span { span ≡ span_of (of_packet packet.now) }
         requires short { length packet.now.payload.now < 2 ^ 31 }
         requires payload { Gives source packet.now.payload.now }
@@ -223,8 +214,8 @@ impl Pool {
     ///
     /// # Errors
     ///
-    /// The first that holds of `Late`, `Repeat` and `Full`, and last out of memory; the pool then
-    /// stays as it was.
+    /// The first that holds of `Late`, `Repeat` and `Full`, otherwise out of memory; the pool then stays
+    /// as it was.
     pub fn store(
         &mut self,
         clock: Tick,
@@ -245,18 +236,14 @@ impl Pool {
         self.offer(clock, delay, Source::Tlv { bytes: tlv, from }, packet)
     }
 
-    /// Keeps a packet as `store` does, but with zeros in place of its payload bytes, and takes no memory
-    /// for them: for those who count payload bytes and read none. Ticks are of 1/65536 second.
+    /// Keeps a packet of at most 65,536 payload bytes as `store` does, but with zeros in place of them,
+    /// which take no memory: for a command that counts payload bytes and reads none. Ticks are of
+    /// 1/65536 second.
     ///
     /// # Errors
     ///
     /// Those of `store`.
-    pub fn count(
-        &mut self,
-        clock: Tick,
-        delay: u32,
-        packet: &Packet<'_>,
-    ) -> Result<Span, NotStored>
+    pub fn count(&mut self, clock: Tick, delay: u32, packet: &Packet<'_>) -> Result<Span, NotStored>
         requires short { length packet.now.payload.now ≤ 65536 }
         requires kind { is_kept_kind packet.now.kind ≡ true }
         ensures stores { Stores self.old clock.0 delay (blank packet.now) result self.new }

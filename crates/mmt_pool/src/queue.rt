@@ -54,7 +54,7 @@ impl Queue {
     ///
     /// # Errors
     ///
-    /// Want of memory; the queue then stays as it was.
+    /// Out of memory; the queue then stays as it was.
     pub(crate) fn put(&mut self, queued: Queued) -> Result<(), OutOfMemory>
         requires absent { has self.old queued ≡ false }
         ensures ok { OnOk result (Puts self.old queued self.new) }

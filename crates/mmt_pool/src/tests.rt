@@ -36,6 +36,30 @@ fn store(
     pool.store(Tick(clock), 1000, tlv, from, &packet)
 }
 
+// Offers a packet on id 7 with this payload, to be counted alone, at a delay of 1,000.
+fn count(
+    pool: &mut Pool,
+    clock: u32,
+    number: u32,
+    time: u32,
+    payload: &[u8],
+) -> Result<Span, NotStored>
+    requires { length payload.now ≤ 65536 }
+{
+    let packet = Packet {
+        counter: None,
+        rap: false,
+        reserved: 0,
+        kind: Kind::Mpu,
+        packet_id: 7,
+        time: Tick(time),
+        number,
+        extension: None,
+        payload,
+    };
+    pool.count(Tick(clock), 1000, &packet)
+}
+
 // Takes out every packet that is no longer in the window.
 fn expire(pool: &mut Pool, clock: Tick, window: u32)
     ensures { pool.new ≡ record pool.old { kept = filter (is_in_window clock.0 window) pool.old.kept } }
@@ -43,7 +67,7 @@ fn expire(pool: &mut Pool, clock: Tick, window: u32)
     'packets: while let Some(_) = pool.expire_one(clock, window) {}
 }
 
-// So many bytes of a payload from `from` on, where they are there.
+// `length` bytes of a payload from `from` on, where they are there.
 fn part(pool: &Pool, span: Span, from: u32, length: u32) -> Option<&[u8]> {
     let payload = pool.payload(span)?;
     if payload.len() < from as usize + length as usize {
@@ -134,6 +158,38 @@ fn lends_what_is_kept_until_it_expires(rt: HostRuntime) -> Result<(), Fail> {
     expire(&mut pool, Tick(1300), 1000);
     assert!(rt; pool.payload(span(0)).is_none());
     assert_eq!(rt; (pool.held(), pool.peak()), (0, 4));
+    Ok(())
+}
+
+// What is counted has the same answers as what is stored, and zeros in place of its bytes.
+#[test]
+fn counts_without_the_bytes(rt: HostRuntime) -> Result<(), Fail> {
+    let mut pool = Pool::new(rt.alloc(), 6)?;
+    let answers = [
+        count(&mut pool, 300, 1, 300, &[1, 2, 3]),
+        count(&mut pool, 300, 1, 300, &[1, 2, 3]),
+        count(&mut pool, 300, 2, 300, &[1, 2, 3, 4]),
+        count(&mut pool, 1301, 2, 300, &[1]),
+        count(&mut pool, 1300, 2, 300, &[1]),
+    ];
+    let full = NotStored::Full { held: 3, length: 4 };
+    let late = NotStored::Late { clock: Tick(1301) };
+    assert_eq!(rt; answers[0], Ok(span(1)));
+    assert_eq!(rt; answers[1], Err(NotStored::Repeat));
+    assert_eq!(rt; answers[2], Err(full));
+    assert_eq!(rt; answers[3], Err(late));
+    assert_eq!(rt; answers[4], Ok(span(2)));
+    assert_eq!(rt;
+        pool.payload(span(1)).ok_or("payload")?,
+        [0, 0, 0].as_slice()
+    );
+    assert_eq!(rt; (pool.held(), pool.peak()), (4, 4));
+
+    // The longest payload.
+    let mut longest = Pool::new(rt.alloc(), 65_536)?;
+    let zeros = [9; 65_536];
+    assert_eq!(rt; count(&mut longest, 300, 7, 300, &zeros), Ok(span(7)));
+    assert_eq!(rt; (longest.held(), longest.peak()), (65_536, 65_536));
     Ok(())
 }
 
@@ -234,7 +290,7 @@ fn takes_out_of_the_row_where_its_first_packet_stays(rt: HostRuntime) -> Result<
 // Run with one allocation that fails, this finds the pool as it was, and the packet is stored when it is
 // offered again.
 #[test]
-fn want_of_memory_leaves_the_pool(rt: HostRuntime) -> Result<(), Fail> {
+fn without_memory_the_pool_stays(rt: HostRuntime) -> Result<(), Fail> {
     let mut pool = Pool::new(rt.alloc(), 99)?;
     let mut kept = 0;
     for number in 0..99 {
