@@ -28,7 +28,7 @@ struct Stored {
 #[derive(Drop)]
 pub struct Pool {
     alloc: Global,
-    packets: BTreeMap<Span, Stored>,
+    packets: BTreeMap<u64, Stored>,
     queue: Queue,
     total: u32,
     bound: u32,
@@ -56,6 +56,13 @@ static ZEROS: [u8; 65_536] = [0; 65_536];
 enum Source<'a> {
     Tlv { bytes: &'a [u8], from: u32 },
     Zeros,
+}
+
+// The one number that a packet is found by: its packet id times 2^32 plus its number.
+fn key_of(span: Span) -> u64
+    ensures { result ≡ key_of span }
+{
+    span.packet_id as u64 * (1 << 32) + span.number as u64
 }
 
 // The part of a TLV packet from `from` on, in a buffer that the whole packet is copied into once.
@@ -90,6 +97,7 @@ fn payload_from(alloc: Global, source: Source<'_>, payload: &[u8]) -> Result<Byt
 
 ghost use Rattle.std.specs.Prelude.{replicate};
 ghost use Rattle.mmt_pool.specs.Sources.{Gives};
+ghost use Rattle.mmt_pool.specs.Stored.{key_of};
 
 impl Pool {
     ghost use Rattle.mmt_pool.specs.Holding.{Kept, Holding, IsSound, IsKeepable, held, payload_at, kind_at, packet_at, is_at, is_kept_kind, is_in_window, IsInOrder, HasPart, part_at, LiesAt};
@@ -147,7 +155,7 @@ impl Pool {
         let held = self.total;
         let length = packet.payload.len() as u32;
         let is_full = length > self.bound - held;
-        let place = match self.packets.entry(span) {
+        let place = match self.packets.entry(key_of(span)) {
             Ok(Entry::Vacant(place)) => place,
             Ok(Entry::Occupied(_kept)) => return Err(NotStored::Repeat),
             Err(_no_memory) => {
@@ -269,7 +277,7 @@ impl Pool {
         ensures done { IfNone result (self.new.kept ≡ filter (is_in_window clock.0 window) self.old.kept) }
     {
         let queued = self.queue.take_out(clock, window)?;
-        let Some(stored) = self.packets.remove(&queued.span) else {
+        let Some(stored) = self.packets.remove(&key_of(queued.span)) else {
             unreachable!()
         };
         self.total -= stored.payload.len() as u32;
@@ -281,7 +289,7 @@ impl Pool {
         ensures kind { result ≡ kind_at self.now.kept span.packet_id span.number }
         ensures kept { IfSome result (λ kind. is_kept_kind kind ≡ true) }
     {
-        let stored = self.packets.get(&span)?;
+        let stored = self.packets.get(&key_of(span))?;
         Some(stored.kind)
     }
 
@@ -290,7 +298,7 @@ impl Pool {
         ensures bytes { option_map (λ x. x.now) result ≡ payload_at self.now.kept span.packet_id span.number }
         ensures short { IfSome result (λ x. length x.now < 2 ^ 31) }
     {
-        let stored = self.packets.get(&span)?;
+        let stored = self.packets.get(&key_of(span))?;
         Some(&stored.payload)
     }
 
@@ -300,7 +308,7 @@ impl Pool {
         ensures bytes { option_map (λ x. x.1.now) result ≡ payload_at self.now.kept span.packet_id span.number }
         ensures short { IfSome result (λ x. length x.1.now < 2 ^ 31) }
     {
-        let stored = self.packets.get(&span)?;
+        let stored = self.packets.get(&key_of(span))?;
         Some((stored.kind, &stored.payload))
     }
 
@@ -310,7 +318,7 @@ impl Pool {
         ensures { part_at self.now.kept span.packet_id span.number from length ≡ Some result.now }
     {
         let from = from as usize;
-        match self.packets.get(&span) {
+        match self.packets.get(&key_of(span)) {
             Some(stored) => &stored.payload[from..from + length as usize],
             None => unreachable!(),
         }
