@@ -19,12 +19,12 @@ returns-in_err-queued-clause-done c =
 pub unreachable-requires : goal.unreachable-requires
 unreachable-requires c =
     let x : IsExpired c.args.clock.0 c.args.window (map entry_of c.self.inside.packets.entries) c.in_ok-queued.queued.span = queued-expired c.self.inside.queue c.self.inside.packets.entries _ _ c.in_ok-queued.queued (omega arith) c.in_ok-queued.ensures.0 c.in_ok-queued.ensures.1 c.self.invariant.tied in
-    removed c.in_ok-queued.queued.span c.self.inside.packets.entries None x.packet (omega arith) x.found c.in_default.ensures.value
+    removed c.in_ok-queued.queued.span c.self.inside.packets.entries None x.packet (omega arith) x.found (rw c.key_of.ensures at c.in_default.ensures.value)
 
 pub overflow_cast-self : goal.overflow_cast-self
 overflow_cast-self c =
     let x : IsExpired c.args.clock.0 c.args.window (map entry_of c.self.inside.packets.entries) c.in_ok-queued.queued.span = queued-expired c.self.inside.queue c.self.inside.packets.entries _ _ c.in_ok-queued.queued (omega arith) c.in_ok-queued.ensures.0 c.in_ok-queued.ensures.1 c.self.invariant.tied in
-    let same : length c.in-Some.stored.payload ≡ length x.packet.payload = ap size_of (removed c.in_ok-queued.queued.span c.self.inside.packets.entries (Some c.in-Some.stored) _ (omega arith) x.found c.in-Some.ensures.value) in
+    let same : length c.in-Some.stored.payload ≡ length x.packet.payload = ap size_of (removed c.in_ok-queued.queued.span c.self.inside.packets.entries (Some c.in-Some.stored) _ (omega arith) x.found (rw c.key_of.ensures at c.in-Some.ensures.value)) in
     let short : length x.packet.payload < 2 ^ 31 = (each_at IsKeepable _ _ _ _ c.self.invariant.sound.keepable x.found).short in
     let fits : c.len.result < 2 ^ 32 = omega (arith, c.len.ensures) in
     search (rules, fits)
@@ -32,18 +32,18 @@ overflow_cast-self c =
 pub overflow_sub-self : goal.overflow_sub-self
 overflow_sub-self c =
     let x : IsExpired c.args.clock.0 c.args.window (map entry_of c.self.inside.packets.entries) c.in_ok-queued.queued.span = queued-expired c.self.inside.queue c.self.inside.packets.entries _ _ c.in_ok-queued.queued (omega arith) c.in_ok-queued.ensures.0 c.in_ok-queued.ensures.1 c.self.invariant.tied in
-    let same : length c.in-Some.stored.payload ≡ length x.packet.payload = ap size_of (removed c.in_ok-queued.queued.span c.self.inside.packets.entries (Some c.in-Some.stored) _ (omega arith) x.found c.in-Some.ensures.value) in
+    let same : length c.in-Some.stored.payload ≡ length x.packet.payload = ap size_of (removed c.in_ok-queued.queued.span c.self.inside.packets.entries (Some c.in-Some.stored) _ (omega arith) x.found (rw c.key_of.ensures at c.in-Some.ensures.value)) in
     omega (arith, c.len.ensures, held-without _ _ _ _ x.found, c.self.invariant.sum)
 
 pub invariant_of-self-2 : goal.invariant_of-self-2
 invariant_of-self-2 c =
     let x : IsExpired c.args.clock.0 c.args.window (map entry_of c.self.inside.packets.entries) c.in_ok-queued.queued.span = queued-expired c.self.inside.queue c.self.inside.packets.entries _ _ c.in_ok-queued.queued (omega arith) c.in_ok-queued.ensures.0 c.in_ok-queued.ensures.1 c.self.invariant.tied in
-    let same : length c.in-Some.stored.payload ≡ length x.packet.payload = ap size_of (removed c.in_ok-queued.queued.span c.self.inside.packets.entries (Some c.in-Some.stored) _ (omega arith) x.found c.in-Some.ensures.value) in
+    let same : length c.in-Some.stored.payload ≡ length x.packet.payload = ap size_of (removed c.in_ok-queued.queued.span c.self.inside.packets.entries (Some c.in-Some.stored) _ (omega arith) x.found (rw c.key_of.ensures at c.in-Some.ensures.value)) in
     let has : (v : Stored) × (at (key_of c.in_ok-queued.queued.span) c.self.inside.packets.entries ≡ Some v) × (v.time.0 ≡ c.in_ok-queued.queued.time) = queued-has c.self.inside.queue c.self.inside.packets.entries c.in_ok-queued.queued (omega arith) c.in_ok-queued.ensures.0 c.self.invariant.tied in
     record {
       sound = rw (c.remove.ensures.entries, c.key_of.ensures, without-entries c.in_ok-queued.queued.span c.self.inside.packets.entries (omega arith)) (sound-without (holding_of c.self.inside.packets.entries c.self.inside.bound c.self.inside.peak) _ _ _ x.found c.self.invariant.sound);
       sum = rw (c.remove.ensures.entries, c.key_of.ensures, without-entries c.in_ok-queued.queued.span c.self.inside.packets.entries (omega arith)) (omega (arith, c.len.ensures, held-without _ _ _ _ x.found, c.self.invariant.sum));
-      tied = tied-remove c.self.inside.queue c.take_out.new.self c.self.inside.packets.entries c.remove.new.self.entries c.in_ok-queued.queued has.0 (omega arith) has.2 has.1 c.in_ok-queued.ensures.2 c.remove.ensures.updates.0 c.self.invariant.tied;
+      tied = tied-remove c.self.inside.queue c.take_out.new.self c.self.inside.packets.entries c.remove.new.self.entries c.in_ok-queued.queued has.0 (omega arith) has.2 has.1 c.in_ok-queued.ensures.2 (rw c.key_of.ensures at c.remove.ensures.updates.0) c.self.invariant.tied;
     }
 
 pub returns-clause-expires : goal.returns-clause-expires
