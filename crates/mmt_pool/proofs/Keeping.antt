@@ -1,9 +1,8 @@
 -- A packet that is offered, as the map answers where its place is.
-use Rattle.std.proofs.Common.{◌≡◌, ℕ, ◌+◌, ◌<◌, ◌≤◌, ◌^◌, Bool, true, false, List, map, length, max, refl, arith, ap, sym, ◌∙◌, Option, Some, None, is_some}
+use Rattle.std.proofs.Common.{◌≡◌, ℕ, ◌+◌, ◌<◌, ◌^◌, Bool, true, false, List, map, length, max, refl, arith, ap, sym, ◌∙◌, Some, None, is_some}
 use Rattle.std.specs.List.{list_any}
-use Rattle.std.specs.Map.{lookup}
 use Rattle.std.specs.BTreeMap.{insert_entry}
-use Rattle.std.specs.Ordering.{is_eq, nat_cmp}
+use Rattle.std.specs.Ordering.{nat_cmp}
 use Rattle.mmt_model.proofs.Inserting.{sum-insert}
 use Rattle.mmt_pool.specs.declared.types.Span.{Span}
 use Rattle.mmt_pool.specs.declared.queue.Queued.{Queued}

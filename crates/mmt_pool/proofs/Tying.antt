@@ -1,11 +1,10 @@
 -- The queue stays tied to the map as packets come and go.
-use Rattle.std.proofs.Common.{◌≡◌, ℕ, ◌+◌, ◌*◌, ◌/◌, ◌%◌, ◌^◌, ◌<◌, Bool, true, false, ◌||◌, ◌&&◌, ◌==◌, nat_lt, cond, ⊎_elim, List, [], ◌∷◌, map, refl, arith, ap, sym, ◌∙◌, Option, Some, None, option_map}
+use Rattle.std.proofs.Common.{◌≡◌, ℕ, ◌/◌, ◌%◌, ◌^◌, ◌<◌, Bool, true, false, ◌||◌, ◌&&◌, ◌==◌, nat_lt, cond, ⊎_elim, List, [], ◌∷◌, map, refl, arith, ap, sym, ◌∙◌, Option, Some, None, option_map}
 use Rattle.std.specs.List.{AllByRecursion}
 use Rattle.std.specs.Map.{lookup}
 use Rattle.std.specs.Ordering.{is_eq, nat_cmp}
 use Rattle.std.proofs.lemmas.Bool.Decides.{nat_tests}
 use Rattle.std.proofs.lemmas.Bool.{eq-eqb, eqb-true, ne_eqb, cases_eq}
-use Rattle.mmt_pool.specs.declared.types.Span.{Span}
 use Rattle.mmt_pool.specs.declared.queue.Queued.{Queued}
 use Rattle.mmt_pool.specs.declared.pool.Stored.{Stored}
 use Rattle.mmt_pool.specs.Holding.{IsInOrder, is_before, is_in_window}

@@ -1,12 +1,9 @@
-use Rattle.std.proofs.Common.{ℕ, refl, arith, rules, ◌≡◌, ◌∙◌, ◌<◌, ◌≤◌, ◌+◌, ap, sym, map, length, List, true, false, is_some, None, Some}
-use Rattle.std.specs.List.{list_any}
+use Rattle.std.proofs.Common.{ℕ, refl, arith, rules, ◌≡◌, ◌∙◌, ◌≤◌, ap, length, List, true, false, is_some}
 use Rattle.mmt_pool.specs.declared.types.Span.{Span}
 use Rattle.mmt_pool.specs.declared.pool.Stored.{Stored}
-use Rattle.mmt_pool.specs.declared.queue.Queued.{Queued}
-use Rattle.mmt_pool.specs.Holding.{Kept, held, is_at, HasRoom, IsKeepable}
-use Rattle.mmt_pool.specs.Stored.{key_of, entry_of, holding_of}
+use Rattle.mmt_pool.specs.Holding.{Kept, held, HasRoom, IsKeepable}
+use Rattle.mmt_pool.specs.Stored.{key_of, entry_of}
 use Rattle.mmt_pool.specs.Doing.{of_packet}
-use Rattle.mmt_pool.proofs.Tying.{at}
 use Rattle.mmt_pool.proofs.Keeping.{any_of, unchanged, none_queued_at, same_packet, holding_new, kept_new}
 use Rattle.mmt_pool.proofs.pool.Pool.keep.Goals as goal
 
