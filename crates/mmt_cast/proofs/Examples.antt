@@ -153,9 +153,11 @@ pub examples : AreExamples
 examples =
     record {
       small = small;
-      one_table = record { right = one_right; has_cast = one_has_cast; admitted = one_admitted };
-      two_tables = record { right = two_right; has_cast = two_has_cast; admitted = two_admitted };
-      at_the_limits = record { right = limits_right; has_cast = limits_has_cast; admitted = limits_admitted };
+      worked = record {
+        one_table = record { right = one_right; has_cast = one_has_cast; admitted = one_admitted };
+        two_tables = record { right = two_right; has_cast = two_has_cast; admitted = two_admitted };
+        at_the_limits = record { right = limits_right; has_cast = limits_has_cast; admitted = limits_admitted };
+      };
       fit = fit;
       spelled = spelled;
     }

@@ -2,7 +2,7 @@
 use Rattle.std.specs.Prelude.{ℕ, ◌≡◌, ◌<◌, ◌==◌, List, [], ◌∷◌, true, false, length, replicate, None, if◌then◌else◌}
 use Rattle.mmt_cast.specs.Casting.{cast_of}
 use Rattle.mmt_cast.specs.Placing.{all_mpus, entry_of_mpu}
-use Rattle.mmt_cast.specs.PlanOne.{plan_at_limits, plan_one, plan_two_tables, plan_with, unit_with, usual, usual_signals}
+use Rattle.mmt_cast.specs.PlanOne.{EachWorked, plan_one, plan_with, unit_with, usual, usual_signals}
 use Rattle.mmt_cast.specs.Refusing.{refusal}
 use Rattle.mmt_cast.specs.Right.{IsMessage, mpu_at, signal_at}
 use Rattle.mmt_cast.specs.TablesRead.{FitsTable}
@@ -53,8 +53,6 @@ pub record CanBeCast (programme : Programme) : Type 0 where
 -- the small plan has these packets, the worked plans have casts that are admitted, and the worked plan meets what the theorems ask of a programme
 pub record AreExamples : Type 0 where
   pub small : (cast_of small_plan).packets ≡ small_packets
-  pub one_table : CanBeCast plan_one
-  pub two_tables : CanBeCast plan_two_tables
-  pub at_the_limits : CanBeCast plan_at_limits
+  pub worked : EachWorked CanBeCast
   pub fit : (m : ℕ) → m < length (all_mpus plan_one) → FitsTable (mpu_at plan_one m)
   pub spelled : (s : ℕ) → s < length plan_one.signals → IsMessage plan_one some_names (signal_at plan_one s) (some_messages s)

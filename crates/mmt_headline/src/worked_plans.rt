@@ -1,0 +1,22 @@
+//! The worked plans: they meet the premises, and what a receiver gives back of ten deliveries of them.
+
+ghost use Rattle.mmt_cast.specs.PlanOne.{EachWorked};
+ghost use Rattle.mmt_headline.specs.WorkedDeliveries.{AreDelivered};
+ghost use Rattle.mmt_headline.specs.WorkedPlans.{MeetsPremises};
+
+use crate::programmes_received::programmes_are_received;
+
+/// The premises can be met: each worked plan can be sent, its cast goes with what is sent of it, a receiver
+/// with the usual options is one of it, and every delivery of it is near.
+pub fn worked_plans_meet_the_premises()
+    ensures { EachWorked MeetsPremises }
+{}
+
+/// Deliveries of the worked plans, in order, with a lost part, repeated, reordered, with a late part, with
+/// the first table lost, without a table, and at the limits of what is in time, kept and due: the same units
+/// are handed out, by the definitions of the receiver, of the bytes of their packets, and are expected.
+pub fn worked_deliveries_agree()
+    ensures { AreDelivered }
+{
+    programmes_are_received();
+}
