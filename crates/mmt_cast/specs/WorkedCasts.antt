@@ -63,7 +63,7 @@ abbrev pub third_cast : Cast
 third_cast = cast_with tight at_the_limits (copy 1 65536100 1 ∷ copy 2 65568768 2 ∷ [])
 
 -- the casts of the worked plans by the definition, and the bytes of the worked plan's table
-pub record ComputesPlanOne : Type 0 where
+pub record WorkedPlansCompute : Type 0 where
   pub one_table : cast_of plan_one ≡ first_cast
   pub two_tables : cast_of plan_two_tables ≡ second_cast
   pub at_the_limits : cast_of plan_at_limits ≡ third_cast

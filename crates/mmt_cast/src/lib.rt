@@ -8,15 +8,15 @@ ghost use Rattle.mmt_cast.specs.PlanOne.{AreRefusedPlans};
 ghost use Rattle.mmt_cast.specs.Readable.{CastsAreReadable};
 ghost use Rattle.mmt_cast.specs.Right.{CastIsRight};
 ghost use Rattle.mmt_cast.specs.TablesRead.{TablesAreRead, TablesAreSpelled};
-ghost use Rattle.mmt_cast.specs.WorkedCasts.{ComputesPlanOne};
+ghost use Rattle.mmt_cast.specs.WorkedCasts.{WorkedPlansCompute};
 ghost use Rattle.mmt_cast.specs.Headline.{ProgrammesAreDelivered};
 
 use mmt_delivery::delivery_theorem;
 
-/// The casts of the worked plan, of that with a second table and of that at the limits have their packets,
-/// units, MPU and table copies.
-pub fn plan_one_computes()
-    ensures { ComputesPlanOne }
+/// The casts of the worked plans, with one table, with two, and at the limits of what is in time, kept and
+/// due, have their packets, units, MPU and table copies; and the table has its bytes.
+pub fn worked_plans_compute()
+    ensures { WorkedPlansCompute }
 {}
 
 /// Plans like the worked one whose casts are not admitted, each with its first fault.

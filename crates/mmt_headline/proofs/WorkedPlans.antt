@@ -1,7 +1,7 @@
 -- The worked plans meet the premises.
 use Rattle.std.proofs.Common.{◌≡◌, ℕ, zero, suc, ◌+◌, ◌<◌, ◌≤◌, List, ◌∷◌, length, arith, refl, sym, subst}
 use Rattle.std.proofs.lemmas.List.Elements.{All-from_recursion}
-use Rattle.mmt_cast.proofs.Computing.{plan_one_computes}
+use Rattle.mmt_cast.proofs.Computing.{worked_plans_compute}
 use Rattle.mmt_cast.proofs.Examples.{examples}
 use Rattle.mmt_cast.specs.Casting.{cast_of}
 use Rattle.mmt_cast.specs.Examples.{CanBeCast}
@@ -17,7 +17,7 @@ use Rattle.mmt_model.specs.declared.programmes.Programme.{Programme}
 use Rattle.mmt_headline.proofs.Keeping.{tuned-of}
 use Rattle.mmt_headline.proofs.Sound.{casts-carry}
 use Rattle.mmt_headline.specs.Programmes.{HoldUnits, IsSendable, Receives}
-use Rattle.mmt_headline.specs.WorkedPlans.{MeetsPremises, usual_config}
+use Rattle.mmt_headline.specs.WorkedPlans.{HasUnits, MeetsPremises, usual_config}
 
 -- all packets lie less than the reach above the first, which tunes
 pub record IsClose (cast : Cast) : Type 0 where
@@ -38,7 +38,7 @@ one-tuned : (later : List ℕ) → tuned_places first_cast 3 (0 ∷ later) ≡ 0
 unfolding tuned_places tunes_at from_heard from_first
 one-tuned later = refl
 
-one-held : (files : ℕ → List ℕ) → 3500 ≤ length (files 0) → HoldUnits files plan_one
+one-held : (files : ℕ → List ℕ) → HasUnits files → HoldUnits files plan_one
 unfolding all_units all_mpus flat_map_from map_from mpus_of units_of
 one-held files long = All-from_recursion (λ (x : PlacedUnit). x.value.from + x.value.length ≤ length (files x.in_mpu.in_asset.file)) (all_units plan_one) (omega (arith, long), (omega (arith, long), tt))
 
@@ -57,7 +57,7 @@ two-tuned : (later : List ℕ) → tuned_places second_cast 3 (0 ∷ later) ≡ 
 unfolding tuned_places tunes_at from_heard from_first
 two-tuned later = refl
 
-two-held : (files : ℕ → List ℕ) → 3500 ≤ length (files 0) → HoldUnits files plan_two_tables
+two-held : (files : ℕ → List ℕ) → HasUnits files → HoldUnits files plan_two_tables
 unfolding all_units all_mpus flat_map_from map_from mpus_of units_of
 two-held files long = All-from_recursion (λ (x : PlacedUnit). x.value.from + x.value.length ≤ length (files x.in_mpu.in_asset.file)) (all_units plan_two_tables) (omega (arith, long), (omega (arith, long), tt))
 
@@ -77,13 +77,13 @@ limits-tuned : (later : List ℕ) → tuned_places third_cast 3 (0 ∷ later) �
 unfolding tuned_places tunes_at from_heard from_first
 limits-tuned later = refl
 
-limits-held : (files : ℕ → List ℕ) → 3500 ≤ length (files 0) → HoldUnits files plan_at_limits
+limits-held : (files : ℕ → List ℕ) → HasUnits files → HoldUnits files plan_at_limits
 unfolding all_units all_mpus flat_map_from map_from mpus_of units_of
 limits-held files long = All-from_recursion (λ (x : PlacedUnit). x.value.from + x.value.length ≤ length (files x.in_mpu.in_asset.file)) (all_units plan_at_limits) (omega (arith, long), (omega (arith, long), tt))
 
-meets : (programme : Programme) → programme.full_every ≡ 3 → IsClose (cast_of programme) → CanBeCast programme → ((files : ℕ → List ℕ) → 3500 ≤ length (files 0) → HoldUnits files programme) → ((timescale : ℕ) → Receives (usual_config timescale) programme) → MeetsPremises programme
+meets : (programme : Programme) → programme.full_every ≡ 3 → IsClose (cast_of programme) → CanBeCast programme → ((files : ℕ → List ℕ) → HasUnits files → HoldUnits files programme) → ((timescale : ℕ) → Receives (usual_config timescale) programme) → MeetsPremises programme
 meets programme every is can held receives =
-    let sendable : (files : ℕ → List ℕ) → 3500 ≤ length (files 0) → IsSendable programme files = λ files long. record { right = can.right; cast = can.has_cast; admitted = can.admitted; held = held files long } in
+    let sendable : (files : ℕ → List ℕ) → HasUnits files → IsSendable programme files = λ files long. record { right = can.right; cast = can.has_cast; admitted = can.admitted; held = held files long } in
     record {
       sendable = sendable;
       carries = λ files timescale long. casts-carry timescale programme files (sendable files long);
@@ -95,7 +95,7 @@ meets programme every is can held receives =
 pub met : EachWorked MeetsPremises
 met =
     record {
-      one_table = meets plan_one refl (subst IsClose (sym plan_one_computes.one_table) (record { close = one-close; tuned = one-tuned })) examples.worked.one_table one-held (λ timescale. record { flow = refl; bound = omega arith; assumed = refl; base = refl });
-      two_tables = meets plan_two_tables refl (subst IsClose (sym plan_one_computes.two_tables) (record { close = two-close; tuned = two-tuned })) examples.worked.two_tables two-held (λ timescale. record { flow = refl; bound = omega arith; assumed = refl; base = refl });
-      at_the_limits = meets plan_at_limits refl (subst IsClose (sym plan_one_computes.at_the_limits) (record { close = limits-close; tuned = limits-tuned })) examples.worked.at_the_limits limits-held (λ timescale. record { flow = refl; bound = omega arith; assumed = refl; base = refl });
+      one_table = meets plan_one refl (subst IsClose (sym worked_plans_compute.one_table) (record { close = one-close; tuned = one-tuned })) examples.worked.one_table one-held (λ timescale. record { flow = refl; bound = omega arith; assumed = refl; base = refl });
+      two_tables = meets plan_two_tables refl (subst IsClose (sym worked_plans_compute.two_tables) (record { close = two-close; tuned = two-tuned })) examples.worked.two_tables two-held (λ timescale. record { flow = refl; bound = omega arith; assumed = refl; base = refl });
+      at_the_limits = meets plan_at_limits refl (subst IsClose (sym worked_plans_compute.at_the_limits) (record { close = limits-close; tuned = limits-tuned })) examples.worked.at_the_limits limits-held (λ timescale. record { flow = refl; bound = omega arith; assumed = refl; base = refl });
     }

@@ -1,12 +1,14 @@
 -- Deliveries of the worked plans, and what a receiver gives back of each. The plans' tables are those that are sent, and the receiver reads them from the bytes of its packets.
-use Rattle.std.specs.Prelude.{◌≡◌, ℕ, ◌≤◌, List, [], ◌∷◌, length, take, drop}
+use Rattle.std.specs.Prelude.{◌≡◌, ℕ, List, [], ◌∷◌, take, drop}
 use Rattle.mmt_cast.specs.PlanOne.{plan_at_limits, plan_one, plan_two_tables}
 use Rattle.mmt_model.specs.Handing.{Presentation}
 use Rattle.mmt_model.specs.declared.keys.UnitKey.TheVariants as keys
 use Rattle.mmt_model.specs.declared.programmes.Programme.{Programme}
 use Rattle.mmt_recv.specs.Receiving.{all_units}
+use Rattle.mmt_headline.specs.Programmes.{Receives}
 use Rattle.mmt_headline.specs.Taken.{expected_of, placed_of}
-use Rattle.mmt_headline.specs.WorkedPlans.{usual_config}
+use Rattle.mmt_headline.specs.WorkedPlans.{HasUnits}
+use Rattle.mmt_tune.specs.declared.config.Config.{Config}
 
 -- a media unit of a worked plan, by its sample and the number of its first packet, with its bytes and its time
 abbrev pub presented : ℕ → ℕ → List ℕ → ℕ → Presentation
@@ -34,13 +36,14 @@ none file = []
 
 -- of a delivery of a programme, whatever the bytes of its file, these units are handed out and expected
 pub record Gives (programme : Programme) (delivery : List ℕ) (units : List ℕ → List Presentation) : Type 0 where
-  -- a receiver with the usual options, whatever its timescale, hands them out of the bytes of the packets
-  pub received : (files : ℕ → List ℕ) (timescale : ℕ) → 3500 ≤ length (files 0) → all_units (usual_config timescale) (placed_of programme files delivery) ≡ units (files 0)
+  -- a receiver of the programme hands them out, at the packets and at the end, where it reads the bytes of the packets
+  pub received : (config : Config) (files : ℕ → List ℕ) → Receives config programme → HasUnits files
+      → all_units config (placed_of programme files delivery) ≡ units (files 0)
   -- they are expected by which packets survived
   pub expected : (files : ℕ → List ℕ) → expected_of programme files delivery ≡ units (files 0)
 
 -- deliveries of the worked plans
-pub record AreDelivered : Type 0 where
+pub record IsDelivered : Type 0 where
   pub one_table_in_order : Gives plan_one (0 ∷ 1 ∷ 2 ∷ 3 ∷ 4 ∷ 5 ∷ []) both
   pub in_order : Gives plan_two_tables (0 ∷ 1 ∷ 2 ∷ 3 ∷ 4 ∷ 5 ∷ 6 ∷ []) both
   pub a_part_lost : Gives plan_two_tables (0 ∷ 1 ∷ 2 ∷ 4 ∷ 5 ∷ 6 ∷ []) only_second

@@ -15,12 +15,17 @@ use Rattle.mmt_model.specs.declared.programmes.FlowChoice.TheVariants as choice
 abbrev pub usual_config : ℕ → Config
 usual_config timescale = record { bound = 67108864; flow = choice.Any; sample_base = 1; timescale = timescale; assumed = None }
 
--- a programme with one file, of which at least 3,500 bytes are there, meets the premises
+-- the file of a worked plan has the bytes of its units
+abbrev pub HasUnits : (ℕ → List ℕ) → Type 0
+HasUnits files = 3500 ≤ length (files 0)
+
+-- a worked plan meets the premises
 pub record MeetsPremises (programme : Programme) : Type 0 where
   -- it can be sent
-  pub sendable : (files : ℕ → List ℕ) → 3500 ≤ length (files 0) → IsSendable programme files
+  pub sendable : (files : ℕ → List ℕ) → HasUnits files → IsSendable programme files
   -- its cast goes with its units and messages, whatever the timescale of the receiver that reads its tables
-  pub carries : (files : ℕ → List ℕ) (timescale : ℕ) → 3500 ≤ length (files 0) → IsCastOf (cast_of programme) (contents_sent programme files) (names_in timescale)
+  pub carries : (files : ℕ → List ℕ) (timescale : ℕ) → HasUnits files
+      → IsCastOf (cast_of programme) (contents_sent programme files) (names_in timescale)
   -- a receiver with the usual options is one of it
   pub receives : (timescale : ℕ) → Receives (usual_config timescale) programme
   -- its first packet tunes a receiver

@@ -1,7 +1,7 @@
 //! The worked plans: they meet the premises, and what a receiver gives back of ten deliveries of them.
 
 ghost use Rattle.mmt_cast.specs.PlanOne.{EachWorked};
-ghost use Rattle.mmt_headline.specs.WorkedDeliveries.{AreDelivered};
+ghost use Rattle.mmt_headline.specs.WorkedDeliveries.{IsDelivered};
 ghost use Rattle.mmt_headline.specs.WorkedPlans.{MeetsPremises};
 
 use crate::programmes_received::programmes_are_received;
@@ -13,10 +13,10 @@ pub fn worked_plans_meet_the_premises()
 {}
 
 /// Deliveries of the worked plans, in order, with a lost part, repeated, reordered, with a late part, with
-/// the first table lost, without a table, and at the limits of what is in time, kept and due: the same units
-/// are handed out, by the definitions of the receiver, of the bytes of their packets, and are expected.
+/// the first table lost, without a table, and at the limits of what is in time, kept and due: what a
+/// receiver hands out of the bytes of each, by its definitions, and what is expected of it, are these units.
 pub fn worked_deliveries_agree()
-    ensures { AreDelivered }
+    ensures { IsDelivered }
 {
     programmes_are_received();
 }
