@@ -16,6 +16,7 @@ pub mod Payloads
 pub mod Peaks
 pub mod WorkedDeliveries
 pub mod WorkedPlans
+pub mod WorkedTables
 pub mod Quiet
 pub mod Received
 pub mod Sent

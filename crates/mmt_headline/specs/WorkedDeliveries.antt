@@ -1,14 +1,32 @@
 -- Deliveries of the worked plans, and what a receiver gives back of each. The plans' tables are those that are sent, and the receiver reads them from the bytes of its packets.
-use Rattle.std.specs.Prelude.{◌≡◌, ℕ, List, [], ◌∷◌, take, drop}
+use Rattle.std.specs.Prelude.{◌≡◌, ℕ, List, [], ◌∷◌, map, length, take, drop}
 use Rattle.mmt_cast.specs.PlanOne.{plan_at_limits, plan_one, plan_two_tables}
+use Rattle.mmt_model.specs.Carrying.{numbers}
+use Rattle.mmt_model.specs.Entries.{Entry}
 use Rattle.mmt_model.specs.Handing.{Presentation}
 use Rattle.mmt_model.specs.declared.keys.UnitKey.TheVariants as keys
 use Rattle.mmt_model.specs.declared.programmes.Programme.{Programme}
+use Rattle.mmt_naming.specs.Findings.{names_in}
+use Rattle.mmt_sent.specs.Messages.{message_bytes}
 use Rattle.mmt_recv.specs.Receiving.{all_units}
 use Rattle.mmt_headline.specs.Programmes.{Receives}
 use Rattle.mmt_headline.specs.Taken.{expected_of, placed_of}
 use Rattle.mmt_headline.specs.WorkedPlans.{HasUnits}
 use Rattle.mmt_tune.specs.declared.config.Config.{Config}
+
+-- the entry by which the tables of the worked plans name their MPU
+abbrev pub name : Entry
+name = record { packet_id = 256; mpu = 7; time = 4297114779648; aus = 4297114779648 ∷ 4297258088390 ∷ [] }
+
+-- a receiver, whatever its timescale, reads these entries in the bytes of a programme's signalling messages, message by message
+abbrev pub Reads : Programme → List (List Entry) → Type 0
+Reads programme read = (timescale : ℕ) → map (λ s. names_in timescale (message_bytes programme s)) (numbers 0 (length programme.signals)) ≡ read
+
+-- in a buffer message nothing is read, and in each table the entry of the MPU
+pub record AreRead : Type 0 where
+  pub one_table : Reads plan_one ([] ∷ (name ∷ []) ∷ [])
+  pub two_tables : Reads plan_two_tables ([] ∷ (name ∷ []) ∷ (name ∷ []) ∷ [])
+  pub at_the_limits : Reads plan_at_limits ([] ∷ (name ∷ []) ∷ (name ∷ []) ∷ [] ∷ [])
 
 -- a media unit of a worked plan, by its sample and the number of its first packet, with its bytes and its time
 abbrev pub presented : ℕ → ℕ → List ℕ → ℕ → Presentation
