@@ -13,7 +13,7 @@ use Rattle.mmt_cast.specs.Placing.{all_mpus, all_units, entry_of_mpu, flat_map_f
 use Rattle.mmt_cast.specs.PlanOne.{mpu_seven, parameters_at, plan_at_limits, plan_one, plan_two_tables, plan_with, table_at, tight, unit_with, usual}
 use Rattle.mmt_cast.specs.Examples.{AreExamples, small_packets, small_plan, some_messages, some_names}
 use Rattle.mmt_cast.specs.Refusing.{out_of_range, refusal, refusal_of_mpu, refusal_of_mpus, refusal_of_packets, refusal_of_signal, refusal_of_signals}
-use Rattle.mmt_cast.specs.Right.{IsMessage, mpu_at, signal_at, unit_at}
+use Rattle.mmt_cast.specs.Right.{IsMessage, mpu_at, signal_at}
 use Rattle.mmt_cast.specs.TablesRead.{FitsTable}
 use Rattle.mmt_cast.specs.Sending.{candidates, carried, group_size, header_length, id_of, is_short, may_join, packet_count, packet_of, packets_of, payload_length, rap_of, sending_of_signal, sending_of_units, sendings, sendings_of_units, tick_of_packet}
 use Rattle.mmt_cast.specs.Tables.{asset_length, descriptors_length, extended_length, is_named_by, named_of_asset, table_length, table_message_length}

@@ -95,7 +95,7 @@ plan_two_tables = plan_three 32800
 abbrev pub plan_at_limits : Programme
 plan_at_limits = plan_with tight (usual_signals ++ (table_at 32768 0 ∷ parameters_at 34955 ∷ [])) (mpu_seven 300 ∷ [])
 
--- so it is for each worked plan: with one table, with two, and at the limits
+-- it holds of each worked plan: with one table, with two, and at the limits
 pub record EachWorked (Holds : Programme → Type 0) : Type 0 where
   pub one_table : Holds plan_one
   pub two_tables : Holds plan_two_tables

@@ -14,7 +14,7 @@ use Rattle.mmt_model.specs.declared.keys.UnitKey.TheVariants as keys
 abbrev pub packet : ℕ → ℕ → ℕ → Bool → ℕ → Carries → Sent
 packet tick packet_id number rap bytes carried = record { at = record { 0 = tick }; packet_id = packet_id; number = number; rap = rap; length = bytes; carries = carried }
 
--- a buffer message, a table, a unit in three packets and a unit in one
+-- the packets of the worked plan: a buffer message, a table, a unit in three packets and a unit in one
 abbrev pub one_table : List Sent
 one_table =
     packet 65536000 0 0 false 19 (carries.Parameters 0)
@@ -25,11 +25,11 @@ one_table =
     ∷ packet 65536300 256 3 false 522 (carries.Whole 1)
     ∷ []
 
--- the same, and the table once more
+-- the packets of the plan with two tables: the same, and the table once more
 abbrev pub two_tables : List Sent
 two_tables = one_table ++ packet 65568800 0 2 false 82 (carries.Table 2) ∷ []
 
--- the same as the first, a table at the first unit's due tick and a buffer message at the second unit's
+-- the packets of the plan at the limits: those of the worked plan, a table at the first unit's due tick and a buffer message at the second unit's
 abbrev pub at_the_limits : List Sent
 at_the_limits = one_table ++ (packet 65568768 0 2 false 82 (carries.Table 2) ∷ packet 65570955 0 3 false 19 (carries.Parameters 3) ∷ [])
 
@@ -54,11 +54,11 @@ cast_with values packets copies =
 abbrev pub first_cast : Cast
 first_cast = cast_with usual one_table (copy 1 65536100 1 ∷ [])
 
--- that of the plan with two tables
+-- the cast of the plan with two tables
 abbrev pub second_cast : Cast
 second_cast = cast_with usual two_tables (copy 1 65536100 1 ∷ copy 2 65568800 2 ∷ [])
 
--- that of the plan at the limits
+-- the cast of the plan at the limits
 abbrev pub third_cast : Cast
 third_cast = cast_with tight at_the_limits (copy 1 65536100 1 ∷ copy 2 65568768 2 ∷ [])
 

@@ -1,5 +1,5 @@
 -- What is handed out and expected of the deliveries of the worked plans: the expected units, computed, and what a receiver hands out by the theorem.
-use Rattle.std.proofs.Common.{◌≡◌, ℕ, ◌+◌, ◌<◌, ◌≤◌, List, [], ◌∷◌, arith, refl, sym, subst, ◌∙◌}
+use Rattle.std.proofs.Common.{◌≡◌, ℕ, List, [], ◌∷◌, arith, refl, sym, subst, ◌∙◌}
 use Rattle.mmt_base.specs.Ticks.{due_of}
 use Rattle.mmt_cast.proofs.Computing.{worked_plans_compute}
 use Rattle.mmt_cast.specs.Casting.{cast_of}

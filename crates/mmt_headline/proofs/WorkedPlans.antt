@@ -11,7 +11,7 @@ use Rattle.mmt_cast.specs.WorkedCasts.{first_cast, second_cast, third_cast}
 use Rattle.mmt_delivery.proofs.Delivering.{short_near}
 use Rattle.mmt_model.specs.Delivery.{from_first, from_heard, reach}
 use Rattle.mmt_model.specs.Received.{tuned_places, tunes_at}
-use Rattle.mmt_model.specs.Survival.{AreOf, sent_at}
+use Rattle.mmt_model.specs.Survival.{sent_at}
 use Rattle.mmt_model.specs.declared.casts.Cast.{Cast}
 use Rattle.mmt_model.specs.declared.programmes.Programme.{Programme}
 use Rattle.mmt_headline.proofs.Keeping.{tuned-of}

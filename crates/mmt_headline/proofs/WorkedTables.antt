@@ -1,5 +1,5 @@
 -- What a receiver reads in the messages of the worked plans.
-use Rattle.std.proofs.Common.{◌≡◌, ℕ, ◌<◌, List, [], ◌∷◌, map, length, arith, refl}
+use Rattle.std.proofs.Common.{◌≡◌, ℕ, ◌<◌, [], ◌∷◌, length, arith, refl}
 use Rattle.mmt_cast.proofs.Examples.{examples}
 use Rattle.mmt_cast.proofs.FromRight.{right-programmes-fit}
 use Rattle.mmt_cast.specs.Casting.{place_of_mpu}
