@@ -20,7 +20,8 @@ name = record { packet_id = 256; mpu = 7; time = 4297114779648; aus = 4297114779
 
 -- a receiver, whatever its timescale, reads these entries in the bytes of a programme's signalling messages, message by message
 abbrev pub Reads : Programme → List (List Entry) → Type 0
-Reads programme read = (timescale : ℕ) → map (λ s. names_in timescale (message_bytes programme s)) (numbers 0 (length programme.signals)) ≡ read
+Reads programme read =
+    (timescale : ℕ) → map (λ s. names_in timescale (message_bytes programme s)) (numbers 0 (length programme.signals)) ≡ read
 
 -- in a buffer message nothing is read, and in each table the entry of the MPU
 pub record AreRead : Type 0 where
