@@ -2,11 +2,12 @@
 use Rattle.std.specs.Prelude.{ℕ, ◌≡◌, ◌<◌, ◌==◌, List, [], ◌∷◌, true, false, length, replicate, None, if◌then◌else◌}
 use Rattle.mmt_cast.specs.Casting.{cast_of}
 use Rattle.mmt_cast.specs.Placing.{all_mpus, entry_of_mpu}
-use Rattle.mmt_cast.specs.PlanOne.{plan_one, plan_with, unit_with, usual_signals}
+use Rattle.mmt_cast.specs.PlanOne.{EachWorked, plan_one, plan_with, unit_with, usual, usual_signals}
 use Rattle.mmt_cast.specs.Refusing.{refusal}
 use Rattle.mmt_cast.specs.Right.{IsMessage, mpu_at, signal_at}
 use Rattle.mmt_cast.specs.TablesRead.{FitsTable}
-use Rattle.mmt_delivery.specs.WorkedPlan.{packet, usual}
+use Rattle.mmt_cast.specs.WorkedCasts.{packet}
+use Rattle.mmt_model.specs.Admission.{fault}
 use Rattle.mmt_model.specs.Entries.{Entry}
 use Rattle.mmt_model.specs.Right.{IsRight}
 use Rattle.mmt_model.specs.declared.casts.Sent.{Sent}
@@ -43,10 +44,15 @@ some_messages s = if s == 0 then replicate 17 0 else replicate 80 0
 abbrev pub some_names : List ℕ → List Entry
 some_names bytes = if length bytes == 17 then [] else entry_of_mpu (mpu_at plan_one 0) ∷ []
 
--- the small plan has these packets, and the worked plan meets what the theorems ask of a programme
+-- a right programme that has a cast, which is admitted
+pub record CanBeCast (programme : Programme) : Type 0 where
+  pub right : IsRight programme
+  pub has_cast : refusal programme ≡ None
+  pub admitted : fault (cast_of programme) ≡ None
+
+-- the small plan has these packets, the worked plans have casts that are admitted, and the worked plan meets what the theorems ask of a programme
 pub record AreExamples : Type 0 where
   pub small : (cast_of small_plan).packets ≡ small_packets
-  pub right : IsRight plan_one
-  pub has_cast : refusal plan_one ≡ None
+  pub worked : EachWorked CanBeCast
   pub fit : (m : ℕ) → m < length (all_mpus plan_one) → FitsTable (mpu_at plan_one m)
   pub spelled : (s : ℕ) → s < length plan_one.signals → IsMessage plan_one some_names (signal_at plan_one s) (some_messages s)

@@ -6,6 +6,7 @@ pub mod Casting
 pub mod Refusing
 pub mod Headline
 pub mod PlanOne
+pub mod WorkedCasts
 pub mod Examples
 pub mod Right
 pub mod TablesRead

@@ -1,9 +1,8 @@
--- The worked plan and plans like it as programmes, and their casts.
+-- The worked plans and plans like them as programmes, and which of their casts are admitted.
 use Rattle.std.specs.Prelude.{ℕ, ◌+◌, ◌≡◌, List, [], ◌∷◌, ◌++◌, true, get_or, length, None, Some}
 use Rattle.mmt_cast.specs.Casting.{cast_of}
 use Rattle.mmt_cast.specs.SentTables.{sent_table}
 use Rattle.mmt_mpt.specs.Table.{mpt_spelling}
-use Rattle.mmt_delivery.specs.WorkedPlan.{first_cast, second_cast, usual}
 use Rattle.mmt_model.specs.Admission.{fault}
 use Rattle.mmt_model.specs.Survival.{no_packet}
 use Rattle.mmt_model.specs.declared.programmes.Mpu.{Mpu}
@@ -13,6 +12,14 @@ use Rattle.mmt_model.specs.declared.programmes.Signal.{Signal}
 use Rattle.mmt_model.specs.declared.programmes.Unit.{Unit as PlannedUnit}
 use Rattle.mmt_model.specs.declared.keys.UnitKey.TheVariants as keys
 use Rattle.mmt_model.specs.declared.programmes.Signal.TheVariants as signals
+
+-- the values of the worked plan's buffer message: its bound, window and delay
+abbrev pub usual : Params
+usual = record { bound = 4000; window = 65536; delay = 1000 }
+
+-- the least window and a short delay
+abbrev pub tight : Params
+tight = record { bound = 4000; window = 34655; delay = 100 }
 
 -- a plan like the worked one, with these values of its buffer message, signalling and MPUs
 abbrev pub plan_with : Params → List Signal → List Mpu → Programme
@@ -80,6 +87,20 @@ plan_of window bound = plan_with (record { bound = bound; window = window; delay
 abbrev pub plan_three : ℕ → Programme
 plan_three tick = plan_with usual (usual_signals ++ table_at tick 0 ∷ []) (mpu_seven 300 ∷ [])
 
+-- the worked plan with a second table, which comes after the first unit is due
+abbrev pub plan_two_tables : Programme
+plan_two_tables = plan_three 32800
+
+-- the worked plan at the limits of what is in time, kept and due: the second unit is due at the end of its window, its packet comes a whole delay after the first unit's first one, a second table is sent at the first unit's due tick, and a buffer message, the last packet, at the second unit's
+abbrev pub plan_at_limits : Programme
+plan_at_limits = plan_with tight (usual_signals ++ (table_at 32768 0 ∷ parameters_at 34955 ∷ [])) (mpu_seven 300 ∷ [])
+
+-- it holds of each worked plan: with one table, with two, and at the limits
+pub record EachWorked (Holds : Programme → Type 0) : Type 0 where
+  pub one_table : Holds plan_one
+  pub two_tables : Holds plan_two_tables
+  pub at_the_limits : Holds plan_at_limits
+
 -- the worked plan with these buffer messages and, 18 hours later, a table and a further MPU
 abbrev pub plan_four : List Signal → Programme
 plan_four messages = plan_with usual (usual_signals ++ (messages ++ table_at 4294967396 1 ∷ [])) (mpu_seven 300 ∷ mpu_eight ∷ [])
@@ -97,17 +118,12 @@ TableOfPlanOne =
     ∷ 0x00 ∷ 0x01 ∷ 0x0C ∷ 0x00 ∷ 0x00 ∷ 0x00 ∷ 0x07 ∷ 0x00 ∷ 0x00 ∷ 0x03 ∷ 0xE8 ∷ 0x80 ∷ 0x00 ∷ 0x00 ∷ 0x00
     ∷ 0x80 ∷ 0x26 ∷ 0x15 ∷ 0xFD ∷ 0x00 ∷ 0x00 ∷ 0xEA ∷ 0x60 ∷ 0x00 ∷ 0x00 ∷ 0x00 ∷ 0x07 ∷ 0x3F ∷ 0x03 ∷ 0xE9 ∷ 0x02 ∷ 0x03 ∷ 0xE9 ∷ 0x03 ∷ 0xE9 ∷ 0x07 ∷ 0xD2 ∷ 0x00 ∷ 0x00 ∷ []
 
--- the casts of the worked plan and of that with one more table are those of which deliveries are worked
-abbrev pub ComputesPlanOne : Type 0
-ComputesPlanOne = (cast_of plan_one ≡ first_cast) × (cast_of (plan_three 32800) ≡ second_cast) × TableOfPlanOne
-
 -- the first fault of the cast of a programme
 abbrev pub HasFault : Programme → ℕ → ℕ → ℕ → ℕ → Type 0
 HasFault programme rule number found allowed = fault (cast_of programme) ≡ Some (record { rule = rule; number = number; found = found; allowed = allowed })
 
--- plans whose casts are admitted or not, each with its first fault
+-- plans like the worked one whose casts are not admitted, each with its first fault, and one whose cast is
 pub record AreRefusedPlans : Type 0 where
-  pub admitted : fault (cast_of plan_one) ≡ None
   pub window_too_small : HasFault (plan_of 32567 4000) 4 0 65568768 65568767
   pub window_short_of_second_unit : HasFault (plan_of 32568 4000) 4 1 65570955 65568868
   pub bound_too_small : HasFault (plan_of 65536 3688) 6 5 3689 3688

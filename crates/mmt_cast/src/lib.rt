@@ -4,17 +4,19 @@
 
 ghost use Rattle.mmt_cast.specs.Examples.{AreExamples};
 ghost use Rattle.mmt_cast.specs.FromRight.{RightProgrammesFit};
-ghost use Rattle.mmt_cast.specs.PlanOne.{ComputesPlanOne, AreRefusedPlans};
+ghost use Rattle.mmt_cast.specs.PlanOne.{AreRefusedPlans};
 ghost use Rattle.mmt_cast.specs.Readable.{CastsAreReadable};
 ghost use Rattle.mmt_cast.specs.Right.{CastIsRight};
 ghost use Rattle.mmt_cast.specs.TablesRead.{TablesAreRead, TablesAreSpelled};
+ghost use Rattle.mmt_cast.specs.WorkedCasts.{WorkedPlansCompute};
 ghost use Rattle.mmt_cast.specs.Headline.{ProgrammesAreDelivered};
 
 use mmt_delivery::delivery_theorem;
 
-/// The cast of the worked plan has its packets, units, MPU and table copy.
-pub fn plan_one_computes()
-    ensures { ComputesPlanOne }
+/// The casts of the worked plans, with one table, with two, and at the limits of what is in time, kept and
+/// due, have their packets, units, MPU and table copies; and the table has its bytes.
+pub fn worked_plans_compute()
+    ensures { WorkedPlansCompute }
 {}
 
 /// Plans like the worked one whose casts are not admitted, each with its first fault.
@@ -22,7 +24,7 @@ pub fn refused_plans_compute()
     ensures { AreRefusedPlans }
 {}
 
-/// A small plan is cut and gathered as it should be, and the worked plan meets what the theorems ask of a
+/// A small plan is cut and gathered as it should be, and the worked plans meet what the theorems ask of a
 /// programme.
 pub fn examples_compute()
     ensures { AreExamples }

@@ -23,4 +23,3 @@ pub mod Carried
 pub mod Faultless
 pub mod Told
 pub mod Theorem
-pub mod Working

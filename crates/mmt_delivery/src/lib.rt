@@ -5,7 +5,6 @@
 
 ghost use Rattle.mmt_delivery.specs.Laws.{Delivers, OutcomesAre, HoldsAlways, PeakFits, ShortIsNear};
 ghost use Rattle.mmt_delivery.specs.Tables.{MessagesAreSent, NamesAreLearned};
-ghost use Rattle.mmt_delivery.specs.WorkedPlan.{IsRightPlan, IsDelivered};
 
 /// Of a cast without a fault, with the contents of a right programme, and of any near delivery of it:
 /// what a receiver with the cast's window and delay and with at least its bound hands out, up to the
@@ -37,19 +36,6 @@ pub fn peak_is_within_the_bound()
 /// seconds) above the first, every delivery of it is near.
 pub fn close_timestamps_are_near()
     ensures { ShortIsNear }
-{}
-
-/// The premises can be met: three casts of a small plan have no fault and go with their contents,
-/// whatever the bytes of its file.
-pub fn worked_plan_is_right()
-    ensures { IsRightPlan }
-{}
-
-/// Deliveries of the small plan, in order, with a lost part, repeated, reordered, with a late part,
-/// with the first table lost, without a table, and at the limits of what is in time, kept and due:
-/// what the definitions of the receiver give is what those of the expected units give.
-pub fn worked_deliveries_agree()
-    ensures { IsDelivered }
 {}
 
 /// Each name in the messages of a stored packet of such a delivery is among the live entries, and no other

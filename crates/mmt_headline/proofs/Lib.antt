@@ -14,7 +14,9 @@ pub mod Notes
 pub mod Packets
 pub mod Payloads
 pub mod Peaks
-pub mod PlanOne
+pub mod WorkedDeliveries
+pub mod WorkedPlans
+pub mod WorkedTables
 pub mod Quiet
 pub mod Received
 pub mod Sent

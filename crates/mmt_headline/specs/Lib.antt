@@ -6,5 +6,6 @@ pub mod Peaks
 pub mod Notes
 pub mod Taken
 pub mod GivesBack
-pub mod PlanOne
+pub mod WorkedPlans
+pub mod WorkedDeliveries
 pub mod WholeCasts

@@ -7,4 +7,4 @@ pub mod definitions_agree;
 pub mod programmes_received;
 pub mod take_runs;
 pub mod whole_casts;
-pub mod worked_plan;
+pub mod worked_plans;

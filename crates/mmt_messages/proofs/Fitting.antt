@@ -11,4 +11,4 @@ right-bytes programme right none =
     record { package_id = fields.package_id; assets = fields.assets; each = fields.each; mpus = fields.mpus; bound = right.params.bound; rise = right-programmes-fit.rise programme right }
 
 pub plan_one_fits : PlanOneFits
-plan_one_fits = right-bytes plan_one examples.right examples.has_cast
+plan_one_fits = right-bytes plan_one examples.worked.one_table.right examples.worked.one_table.has_cast

@@ -7,10 +7,10 @@ use Rattle.mmt_signals.proofs.Tables.{none_before}
 use Rattle.mmt_signals.proofs.tests.message.Goals as goal
 
 pub put_message-requires-clause-right : goal.put_message-requires-clause-right
-put_message-requires-clause-right c = subst IsRight (sym c.in_ok-programme.ensures) examples.right
+put_message-requires-clause-right c = subst IsRight (sym c.in_ok-programme.ensures) examples.worked.one_table.right
 
 pub put_message-requires-clause-cast : goal.put_message-requires-clause-cast
-put_message-requires-clause-cast c = ap refusal c.in_ok-programme.ensures ∙ examples.has_cast
+put_message-requires-clause-cast c = ap refusal c.in_ok-programme.ensures ∙ examples.worked.one_table.has_cast
 
 pub put_message-requires-clause-at : goal.put_message-requires-clause-at
 put_message-requires-clause-at c = rw c.in_ok-programme.ensures (omega (arith, c.requires))

@@ -1,5 +1,0 @@
-use Rattle.mmt_headline.proofs.worked_plan.plan_one_is_received.Goals as goal
-use Rattle.mmt_headline.proofs.PlanOne.{is-received as law}
-
-pub returns : goal.returns
-returns c = law
