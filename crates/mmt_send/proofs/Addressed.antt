@@ -9,7 +9,7 @@ use Rattle.mmt_ctx.specs.Spelling.{full_header, spelling as compressed_spelling}
 use Rattle.mmt_ctx.specs.Squeezing.{Squeezing, packet_at}
 use Rattle.mmt_send.specs.Calls.{IsAt}
 use Rattle.mmt_send.specs.declared.addressing.Addresser.{Addresser}
-use Rattle.mmt_tlv.specs.Framing.{Packet as Tlv}
+use Rattle.mmt_tlv.specs.Framing.{Packet as Tlv, spelling}
 use Rattle.mmt_sent.specs.Packets.{Addressing, addressed, squeezing}
 
 pub datagram-long : (v : Datagram) → length (datagram_spelling v) ≡ 48 + length v.payload
@@ -25,11 +25,12 @@ unfolding compressed_spelling
 compressed-long context number None payload lt = simp (length-append, length_big_endian) (omega arith)
 compressed-long context number (Some h) payload lt = simp (length-append, length_big_endian) (omega (arith, header-long h))
 
-pub plain-short : (out : List ℕ) (v : Datagram) → out ≡ datagram_spelling v → length v.payload ≤ 65000 → length out < 65536
-plain-short out v e l = omega (arith, ap (λ (xs : List ℕ). length xs) e, datagram-long v)
+pub plain-short : (old out : List ℕ) (v : Datagram) → out ≡ old ++ datagram_spelling v → length v.payload ≤ 65000 → length out < length old + 65536
+plain-short old out v e l = omega (arith, ap (λ (xs : List ℕ). length xs) e, length-append old (datagram_spelling v), datagram-long v)
 
-pub squeezed-short : (call : ℕ) (s : Squeezing) (out payload : List ℕ) → out ≡ compressed_spelling (packet_at call s payload) → length payload ≤ 65000 → length out < 65536
-squeezed-short call s out payload e l = omega (arith, ap (λ (xs : List ℕ). length xs) e, compressed-long s.context (call % 16) (cond (call % s.full_every == 0) (Some s.header) None) payload l)
+pub squeezed-short : (call : ℕ) (s : Squeezing) (old out payload : List ℕ) → out ≡ old ++ compressed_spelling (packet_at call s payload) → length payload ≤ 65000 → length out < length old + 65536
+squeezed-short call s old out payload e l =
+    omega (arith, ap (λ (xs : List ℕ). length xs) e, length-append old (compressed_spelling (packet_at call s payload)), compressed-long s.context (call % 16) (cond (call % s.full_every == 0) (Some s.header) None) payload l)
 
 pub plain-addressed : (a : Addressing) (call : ℕ) (header : Ip6Header) (payload out : List ℕ) → a.full_every ≡ 0 → header ≡ a.header → out ≡ datagram_spelling (record { header = header; summed = true; payload = payload })
     → addressed a call payload ≡ record { kind = 2; body = out }
@@ -48,9 +49,15 @@ squeezed-addressed a call s payload out some context every header e =
     (ne_eqb a.full_every 0 some)
     ∙ ap (λ (body : List ℕ). let t : Tlv = record { kind = 3; body = body } in t) (ap compressed_spelling same ∙ sym e)
 
--- what is appended to nothing stands alone
-pub alone : (out old x : List ℕ) → old ≡ [] → out ≡ old ++ x → out ≡ x
-alone out old x none e = e ∙ ap (λ (xs : List ℕ). xs ++ x) none
-
 pub at-variant : (a : Addressing) (call : ℕ) (s v : Addresser) → s ≡ v → IsAt a call s → IsAt a call v
 at-variant a call s v e is = subst (IsAt a call) e is
+
+-- the head of a TLV packet, and the body behind it
+pub head-first : (kind : ℕ) (cleared head out body : List ℕ) → cleared ≡ [] → head ≡ cleared ++ spelling (record { kind = kind; body = [] }) → out ≡ head ++ body
+    → out ≡ spelling (record { kind = kind; body = [] }) ++ body
+head-first kind cleared head out body none h o =
+    o ∙ ap (λ (xs : List ℕ). xs ++ body) (h ∙ ap (λ (xs : List ℕ). xs ++ spelling (record { kind = kind; body = [] })) none)
+
+pub head-there : (kind : ℕ) (cleared head out body : List ℕ) → cleared ≡ [] → head ≡ cleared ++ spelling (record { kind = kind; body = [] }) → out ≡ head ++ body → 4 ≤ length out
+head-there kind cleared head out body none h o =
+    omega (arith, ap (λ (xs : List ℕ). length xs) (head-first kind cleared head out body none h o))

@@ -1,6 +1,6 @@
 //! The TLV packets of one flow, call by call.
 
-ghost use Rattle.std.specs.Prelude.{◌≡◌, ◌+◌, ◌≤◌, ◌<◌, ℕ, [], length, IfOk, OnOk};
+ghost use Rattle.std.specs.Prelude.{◌≡◌, ◌+◌, ◌≤◌, ◌<◌, ◌++◌, ℕ, List, [], length, OnOk};
 ghost use Rattle.mmt_model.specs.Right.{IsRight};
 ghost use Rattle.mmt_sent.specs.Packets.{Addressing, addressed};
 ghost use Rattle.mmt_sent.specs.Stream.{addressing_of};
@@ -52,17 +52,26 @@ impl Addresser {
         }
     }
 
-    // Writes the body of the next packet into an empty vector, and answers its TLV packet type (ARIB STD-B32
-    // Part 3).
-    fn body(&mut self, out: &mut Vec<u8>, payload: &[u8]) -> Result<u8, OutOfMemory>
+    // The TLV packet type of the next packet (ARIB STD-B32 Part 3): IPv6, or header-compressed IP.
+    fn kind(&self) -> u8
+        ensures { (a : Addressing) (call : ℕ) (payload : List ℕ) → IsAt a call self.now →
+            (addressed a call payload).kind ≡ result }
+    {
+        match self {
+            Addresser::Plain(_) => 2,
+            Addresser::Squeezed(_) => 3,
+        }
+    }
+
+    // Appends the body of the next packet.
+    fn body(&mut self, out: &mut Vec<u8>, payload: &[u8]) -> Result<(), OutOfMemory>
         requires label { FitsLabel self.old }
         requires call { HasCall self.old }
         requires short { length payload.now ≤ 65000 }
-        requires empty { out.old.items ≡ [] }
         ensures label { FitsLabel self.new }
-        ensures long { OnOk result (length out.new.items < 65536) }
-        ensures body { IfOk result (λ kind. (a : Addressing) (call : ℕ) → IsAt a call self.old → addressed a call payload.now ≡ record
-            { kind = kind; body = out.new.items }) }
+        ensures long { OnOk result (length out.new.items < length out.old.items + 65536) }
+        ensures body { OnOk result ((a : Addressing) (call : ℕ) → IsAt a call self.old →
+            out.new.items ≡ out.old.items ++ (addressed a call payload.now).body) }
         ensures next { OnOk result ((a : Addressing) (call : ℕ) → IsAt a call self.old → IsAt a (call + 1) self.new) }
     {
         match self {
@@ -73,17 +82,17 @@ impl Addresser {
                     payload,
                 };
                 write_ip6udp(out, &packet)?;
-                Ok(2)
+                Ok(())
             }
             Addresser::Squeezed(squeezer) => {
                 squeezer.next(out, payload)?;
-                Ok(3)
+                Ok(())
             }
         }
     }
 
-    /// Makes the next packet in `made.outer` of the UDP payload that stands there: a TLV packet (ARIB STD-B32
-    /// Part 3), with its body in `made.inner`.
+    /// Makes the next packet in `made.outer`: a TLV packet (ARIB STD-B32 Part 3) with the UDP payload that
+    /// stands in `made.inner`.
     ///
     /// # Errors
     ///
@@ -91,20 +100,32 @@ impl Addresser {
     pub fn packet(&mut self, made: &mut Made) -> Result<(), OutOfMemory>
         requires label { FitsLabel self.old }
         requires call { HasCall self.old }
-        requires short { length made.old.outer.items ≤ 65000 }
+        requires short { length made.old.inner.items ≤ 65000 }
         ensures label { FitsLabel self.new }
         ensures packet { OnOk result ((a : Addressing) (call : ℕ) → IsAt a call self.old → made.new.outer.items ≡ spelling
-            (addressed a call made.old.outer.items)) }
+            (addressed a call made.old.inner.items)) }
         ensures next { OnOk result ((a : Addressing) (call : ℕ) → IsAt a call self.old → IsAt a (call + 1) self.new) }
     {
-        made.inner.clear();
-        let kind = self.body(&mut made.inner, made.outer.as_slice())?;
         made.outer.clear();
-        let tlv = Tlv {
-            kind,
-            body: made.inner.as_slice(),
+        let head = Tlv {
+            kind: self.kind(),
+            body: &[],
         };
-        write_tlv(&mut made.outer, &tlv)?;
+        write_tlv(&mut made.outer, &head)?;
+        self.body(&mut made.outer, made.inner.as_slice())?;
+        put_length(&mut made.outer);
         Ok(())
     }
+}
+
+// Writes the length of the body into a TLV packet of which the rest is written (ARIB STD-B32 Part 3).
+fn put_length(out: &mut Vec<u8>)
+    requires head { 4 ≤ length out.old.items }
+    requires long { length out.old.items < 65540 }
+    ensures { (kind : ℕ) (body : List ℕ) → out.old.items ≡ spelling (record { kind = kind; body = [] }) ++ body →
+        out.new.items ≡ spelling (record { kind = kind; body = body }) }
+{
+    let length = out.len() - 4;
+    out[2] = (length / 256) as u8;
+    out[3] = (length % 256) as u8;
 }

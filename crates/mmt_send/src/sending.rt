@@ -66,7 +66,7 @@ impl Sender {
     {
         let packets = job.cast.packets.as_slice();
         let sent = packets[place];
-        make_packet(job, shelf, &sent, &mut self.room, &mut self.made)?;
+        make_packet(job, shelf, &sent, &mut self.room, &mut self.made.inner)?;
         self.addresser.packet(&mut self.made)?;
         Ok(())
     }

@@ -21,7 +21,7 @@ returns-clause-ready g c = record {
 
 pub returns-clause-packet : goal.returns-clause-packet
 returns-clause-packet g c t =
-    packet-is c.args.job.now.programme.now c.args.job.now.cast.now (files_on (g.H.Shelf.file c.args.shelf.now) c.args.job.now.programme.now) c.args.place _ c.packet.new.made.outer.items c.make_packet.new.made.outer.items c.requires.job.is
+    packet-is c.args.job.now.programme.now c.args.job.now.cast.now (files_on (g.H.Shelf.file c.args.shelf.now) c.args.job.now.programme.now) c.args.place _ c.packet.new.made.outer.items c.make_packet.new.out.items c.requires.job.is
     (at-slice c.args.job.now.cast.now c.as_slice-packets.result.now c.args.place _ c.as_slice-packets.ensures (omega (arith, c.requires.place, ap (λ (xs : List Sent). length xs) c.as_slice-packets.ensures)))
     (c.in_ok-make_packet.ensures.packet t) (c.in_ok-packet.ensures.packet (addressing_of c.args.job.now.programme.now) c.args.place c.requires.ready.at)
 
