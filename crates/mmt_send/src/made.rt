@@ -4,8 +4,8 @@ ghost use Rattle.std.specs.Prelude.{◌≡◌, []};
 
 use std::alloc::Global;
 
-/// Two vectors in which a packet is made: `inner` has the MMTP packet, and `outer` the TLV packet that it
-/// goes into. Each is made in place: its headers are written, and what it has goes behind them.
+/// Two vectors in which a packet is made: `outer` has the TLV packet so far. Where headers are compressed it is made
+/// there from first to last. Otherwise `inner` has its UDP payload, since the checksum stands before it.
 #[derive(Drop)]
 pub struct Made {
     pub inner: Vec<u8>,

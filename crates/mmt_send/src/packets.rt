@@ -1,6 +1,6 @@
 //! The packets of a cast as MMTP packets.
 
-ghost use Rattle.std.specs.Prelude.{◌≡◌, ◌≤◌, length, IsTrue, IfErr, OnOk};
+ghost use Rattle.std.specs.Prelude.{◌≡◌, ◌+◌, ◌≤◌, ◌++◌, length, IsTrue, IfErr, OnOk};
 ghost use Rattle.mmt_model.specs.Carrying.{Contents};
 ghost use Rattle.mmt_model.specs.declared.casts.Cast.{Cast as SentCast};
 ghost use Rattle.mmt_packet.specs.Spelling.{spelling};
@@ -32,13 +32,12 @@ fn kind_of(carries: Carries) -> Kind
     }
 }
 
-/// Makes an MMTP packet of the cast in `out`, in place of what stands there: without packet counter and extension, and with reserved
-/// bits 0 (ISO/IEC 23008-1, the MMTP packet header). The payload is written behind the header.
+/// Appends an MMTP packet of the cast: without packet counter and extension, and with reserved bits 0 (ISO/IEC 23008-1, the MMTP packet header). The payload is written behind the header.
 ///
 /// # Errors
 ///
 /// Those of its payload.
-pub fn make_packet<H: Shelf>(
+pub fn put_packet<H: Shelf>(
     job: &Job<'_>,
     shelf: &mut H,
     sent: &Sent,
@@ -53,9 +52,9 @@ pub fn make_packet<H: Shelf>(
         (H.faults shelf.new) }
     ensures cause { IfErr result (λ e. HasCause job.now.programme.now (H.tells shelf.old) (H.file shelf.old) (H.faults shelf.old)
         (H.faults shelf.new) e) }
-    ensures long { OnOk result (length out.new.items ≤ 60034) }
+    ensures long { OnOk result (length out.new.items ≤ length out.old.items + 60034) }
     ensures packet { IsTrue (H.tells shelf.old) →
-        OnOk result (out.new.items ≡ spelling
+        OnOk result (out.new.items ≡ out.old.items ++ spelling
         (mmtp_of job.now.cast.now (contents_sent job.now.programme.now (files_on (H.file shelf.old) job.now.programme.now))
         sent.now)) }
     ensures held { IsTrue (H.tells shelf.old) →
@@ -72,7 +71,6 @@ pub fn make_packet<H: Shelf>(
         extension: None,
         payload: &[],
     };
-    out.clear();
     write_packet(out, &header)?;
     put_payload(job, shelf, sent.carries, room, out)?;
     Ok(())
