@@ -32,11 +32,7 @@ fn gap_fault(packets: &[Sent], n: usize) -> Option<NotAdmitted>
 }
 
 /// The first fault of a timestamp so far, or else that of a packet's timestamp.
-pub(crate) fn gap_by(
-    packets: &[Sent],
-    n: usize,
-    so_far: Option<NotAdmitted>,
-) -> Option<NotAdmitted>
+pub(crate) fn gap_by(packets: &[Sent], n: usize, so_far: Option<NotAdmitted>) -> Option<NotAdmitted>
     requires fit { PacketsFit packets.now }
     requires place { n < length packets.now }
     ensures { as_fault result ≡ or_else (as_fault so_far) (fault_of_gap packets.now n) }

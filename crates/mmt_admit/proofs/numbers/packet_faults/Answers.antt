@@ -1,4 +1,4 @@
-use Rattle.std.proofs.Common.{◌≡◌, ◌<◌, length, arith, ap, get_or, refl, sym, ◌∙◌}
+use Rattle.std.proofs.Common.{◌<◌, arith, ap, get_or, refl, sym, ◌∙◌}
 use Rattle.mmt_admit.specs.Faults.{as_fault}
 use Rattle.mmt_admit.proofs.Counting.{counts-begin, counts-go_on, counts-small, number-at}
 use Rattle.mmt_admit.proofs.Walking.{walk-begins, walk-more}
