@@ -1,5 +1,5 @@
 -- How long an MMTP packet of a cast is, and that it is the one at its place.
-use Rattle.std.proofs.Common.{◌≡◌, ℕ, ◌+◌, ◌≤◌, Bool, List, [], ◌++◌, length, get_or, None, arith, append_assoc, refl, ap, ap₂, ◌∙◌}
+use Rattle.std.proofs.Common.{◌≡◌, ℕ, ◌+◌, Bool, List, [], ◌++◌, length, get_or, None, arith, append_assoc, refl, ap, ap₂, ◌∙◌}
 use Rattle.std.proofs.lemmas.List.{length-append}
 use Rattle.mmt_fields.proofs.Numbers.{length_big_endian}
 use Rattle.mmt_model.specs.Carrying.{Contents}

@@ -1,4 +1,4 @@
-use Rattle.std.proofs.Common.{List, ℕ, length, arith, ap}
+use Rattle.std.proofs.Common.{arith}
 use Rattle.mmt_sent.specs.Stream.{contents_sent}
 use Rattle.mmt_send.specs.Files.{files_on}
 use Rattle.mmt_send.proofs.Mmtp.{head-long, packet-made}

@@ -4,7 +4,6 @@ use Rattle.mmt_sent.specs.Packets.{Addressing}
 use Rattle.mmt_sent.specs.Stream.{addressing_of}
 use Rattle.mmt_send.specs.Calls.{IsAt}
 use Rattle.mmt_send.specs.Files.{files_on}
-use Rattle.mmt_send.specs.Held.{AreHeld}
 use Rattle.mmt_send.specs.declared.addressing.Addresser.TheVariants.{Plain, Squeezed}
 use Rattle.mmt_send.proofs.Addressed.{at-variant}
 use Rattle.mmt_send.proofs.EachCarried.{at-slice, each-carried}
