@@ -33,6 +33,13 @@ pub walk-begins : (f : ℕ → Option Fault) → first_below f 0 ≡ None
 unfolding first_below
 walk-begins f = refl
 
+-- one more place
+pub walk-more : (f : ℕ → Option Fault) (n : ℕ) (a x : Option Fault) → a ≡ first_below f n → x ≡ or_else a (f n) → x ≡ first_below f (n + 1)
+unfolding first_below
+walk-more f n a x before here =
+    let s : n + 1 ≡ suc n = omega arith in
+    here ∙ (ap (λ b. or_else b (f n)) before ∙ sym (ap (first_below f) s))
+
 -- rule A2 by the two timestamps
 pub gap-first : (packets : List Sent) (n : ℕ) → n ≡ 0 → None ≡ fault_of_gap packets n
 unfolding fault_of_gap

@@ -6,14 +6,12 @@ ghost use Rattle.mmt_model.specs.Admission.{fault};
 
 use crate::answers::NotAdmitted;
 use crate::copies::first_copy;
-use crate::gaps::first_gap;
 use crate::live::first_live;
 use crate::loads::first_load;
-use crate::numbers::first_number;
+use crate::numbers::packet_faults;
 use crate::params::params_fault;
-use crate::rising::first_key;
 use crate::starts::{first_mpu, start_fault};
-use crate::timely::first_unit;
+use crate::units::unit_faults;
 use mmt_model::Cast;
 use std::marker::Model;
 
@@ -58,17 +56,16 @@ fn first_fault(cast: &Cast) -> Option<NotAdmitted>
     if params.is_some() {
         return params;
     }
-    let gap = first_gap(packets);
-    if gap.is_some() {
-        return gap;
+    let of_packets = packet_faults(packets);
+    if of_packets.gap.is_some() {
+        return of_packets.gap;
     }
-    let number = first_number(packets);
-    if number.is_some() {
-        return number;
+    if of_packets.number.is_some() {
+        return of_packets.number;
     }
-    let unit = first_unit(cast);
-    if unit.is_some() {
-        return unit;
+    let of_units = unit_faults(cast);
+    if of_units.due.is_some() {
+        return of_units.due;
     }
     let copy = first_copy(cast);
     if copy.is_some() {
@@ -82,9 +79,8 @@ fn first_fault(cast: &Cast) -> Option<NotAdmitted>
     if live.is_some() {
         return live;
     }
-    let key = first_key(cast);
-    if key.is_some() {
-        return key;
+    if of_units.key.is_some() {
+        return of_units.key;
     }
     let start = start_fault(packets);
     if start.is_some() {

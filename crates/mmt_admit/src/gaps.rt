@@ -2,7 +2,7 @@
 
 ghost use Rattle.std.specs.Prelude.{◌≡◌, ◌<◌, length};
 ghost use Rattle.mmt_admit.specs.Faults.{as_fault, PacketsFit};
-ghost use Rattle.mmt_model.specs.Admission.{fault_of_gap, first_below};
+ghost use Rattle.mmt_model.specs.Admission.{fault_of_gap, or_else};
 
 use crate::answers::{NotAdmitted, Rule, earlier, unless};
 use crate::reads::tick_at;
@@ -31,16 +31,14 @@ fn gap_fault(packets: &[Sent], n: usize) -> Option<NotAdmitted>
     )
 }
 
-/// The first fault of a timestamp after the one before it.
-pub(crate) fn first_gap(packets: &[Sent]) -> Option<NotAdmitted>
-    requires { PacketsFit packets.now }
-    ensures { as_fault result ≡ first_below (fault_of_gap packets.now) (length packets.now) }
+/// The first fault of a timestamp so far, or else that of a packet's timestamp.
+pub(crate) fn gap_by(packets: &[Sent], n: usize, so_far: Option<NotAdmitted>) -> Option<NotAdmitted>
+    requires fit { PacketsFit packets.now }
+    requires place { n < length packets.now }
+    ensures { as_fault result ≡ or_else (as_fault so_far) (fault_of_gap packets.now n) }
 {
-    for n in 0..packets.len() {
-        let found = gap_fault(packets, n);
-        if found.is_some() {
-            return found;
-        }
+    match so_far {
+        Some(_) => so_far,
+        None => gap_fault(packets, n),
     }
-    None
 }

@@ -21,6 +21,7 @@ mod starts;
 #[cfg(test)]
 mod tests;
 mod timely;
+mod units;
 
 pub use admitting::{Admitted, admit};
 pub use answers::{NotAdmitted, Rule};

@@ -2,7 +2,7 @@
 
 ghost use Rattle.std.specs.Prelude.{◌≡◌, ◌<◌, ◌==◌, ◌&&◌, ◌||◌, nat_lt, [], ◌∷◌, length};
 ghost use Rattle.mmt_admit.specs.Faults.{as_fault, IsReadable};
-ghost use Rattle.mmt_model.specs.Admission.{fault_of_key, first_below, is_of_one_mpu, sample_or_item};
+ghost use Rattle.mmt_model.specs.Admission.{fault_of_key, is_of_one_mpu, or_else, sample_or_item};
 ghost use Rattle.mmt_model.specs.Handing.{key_numbers, precedes};
 
 use crate::answers::{NotAdmitted, Rule, unless};
@@ -92,16 +92,14 @@ fn key_fault(cast: &Cast, u: usize) -> Option<NotAdmitted>
     )
 }
 
-/// The first unit whose key does not come after that of the unit before it.
-pub(crate) fn first_key(cast: &Cast) -> Option<NotAdmitted>
-    requires { IsReadable cast.now }
-    ensures { as_fault result ≡ first_below (fault_of_key cast.now) (length cast.now.units) }
+/// The first fault of a key so far, or else that of a unit's key.
+pub(crate) fn key_by(cast: &Cast, u: usize, so_far: Option<NotAdmitted>) -> Option<NotAdmitted>
+    requires readable { IsReadable cast.now }
+    requires place { u < length cast.now.units }
+    ensures { as_fault result ≡ or_else (as_fault so_far) (fault_of_key cast.now u) }
 {
-    for u in 0..cast.units.len() {
-        let found = key_fault(cast, u);
-        if found.is_some() {
-            return found;
-        }
+    match so_far {
+        Some(_) => so_far,
+        None => key_fault(cast, u),
     }
-    None
 }

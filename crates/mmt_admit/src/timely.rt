@@ -2,7 +2,7 @@
 
 ghost use Rattle.std.specs.Prelude.{◌≡◌, ◌<◌, length};
 ghost use Rattle.mmt_admit.specs.Faults.{as_fault, IsReadable};
-ghost use Rattle.mmt_model.specs.Admission.{fault_of_unit, first_below};
+ghost use Rattle.mmt_model.specs.Admission.{fault_of_unit, or_else};
 
 use crate::answers::{NotAdmitted, Rule, earlier, unless};
 use crate::reads::{unit_at, widened};
@@ -27,16 +27,14 @@ fn unit_fault(cast: &Cast, u: usize) -> Option<NotAdmitted>
     )
 }
 
-/// The first unit that is due too early or too late.
-pub(crate) fn first_unit(cast: &Cast) -> Option<NotAdmitted>
-    requires { IsReadable cast.now }
-    ensures { as_fault result ≡ first_below (fault_of_unit cast.now) (length cast.now.units) }
+/// The first fault of a unit's due tick so far, or else that of a unit.
+pub(crate) fn unit_by(cast: &Cast, u: usize, so_far: Option<NotAdmitted>) -> Option<NotAdmitted>
+    requires readable { IsReadable cast.now }
+    requires place { u < length cast.now.units }
+    ensures { as_fault result ≡ or_else (as_fault so_far) (fault_of_unit cast.now u) }
 {
-    for u in 0..cast.units.len() {
-        let found = unit_fault(cast, u);
-        if found.is_some() {
-            return found;
-        }
+    match so_far {
+        Some(_) => so_far,
+        None => unit_fault(cast, u),
     }
-    None
 }

@@ -40,7 +40,7 @@ pub record ProgrammeFits (programme : Programme) : Type 0 where
 abbrev pub extended_of_mpu : Mpu → ℕ
 extended_of_mpu m = if nat_lt 0 (length m.aus) then 16 + 4 * length m.aus else 0
 
--- there is no cast for want of memory, or by the programme's first refusal
+-- there is no cast out of memory, or by the programme's first refusal
 abbrev pub IsEndOf : Programme → CastEnd → Type 0
 IsEndOf programme end = (end ≡ ends.OutOfMemory) ⊎ ((r : Refusal) × (refusal programme ≡ Some r) × (end ≡ end_of r))
 

@@ -42,7 +42,7 @@ fn made(alloc: Global, programme: &Programme) -> Result<Cast, OutOfMemory>
     let mut units = Vec::new(alloc);
     put_signalling(&mut packets, programme)?;
     put_media(&mut packets, &mut units, programme)?;
-    sort(packets.as_mut_slice());
+    sort(alloc, packets.as_mut_slice())?;
     let copies = copies_of(alloc, programme)?;
     let named = named_from(alloc, mpus_count(programme), copies.as_slice())?;
     let mpus = mpus_of(alloc, programme, units.as_slice(), named.as_slice())?;

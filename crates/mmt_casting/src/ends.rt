@@ -1,7 +1,7 @@
 //! Why there is no cast.
 
 /// Why a programme has no cast: the first access unit whose time is out of range, the first table that
-/// is too long, too many packets, or want of memory.
+/// is too long, too many packets, or out of memory.
 #[derive(Clone, Copy, Debug, PartialEq, Eq)]
 pub enum CastEnd {
     /// An access unit's time is outside 0 to 2^64 - 1.

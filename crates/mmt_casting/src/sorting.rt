@@ -1,11 +1,13 @@
 //! The packets of a cast in their order.
 
-ghost use Rattle.std.specs.Prelude.{◌≡◌};
+ghost use Rattle.std.specs.Prelude.{◌≡◌, OnOk};
 ghost use Rattle.std.specs.Ordering.{is_lt};
 ghost use Rattle.mmt_cast.specs.Casting.{cast_of, is_sent_before, planned};
 ghost use Rattle.mmt_model.specs.declared.programmes.Programme.{Programme};
 
+use mmt_base::OutOfMemory;
 use mmt_model::Sent;
+use std::alloc::Global;
 use std::cmp::Ordering;
 
 /// A packet comes before another: by timestamp, packet id and number.
@@ -31,9 +33,11 @@ fn order(p: &Sent, q: &Sent) -> Ordering
     }
 }
 
-/// Puts the packets of a programme into the order of its cast. It takes no memory.
-pub(crate) fn sort(packets: &mut [Sent])
-    ensures { (programme : Programme) → packets.old ≡ planned programme → packets.new ≡ (cast_of programme).packets }
+/// Puts the packets of a programme into the order of its cast. The packets of each asset are planned mostly in
+/// order, so they are runs, which are merged. It takes memory for as many packets.
+pub(crate) fn sort(alloc: Global, packets: &mut [Sent]) -> Result<(), OutOfMemory>
+    ensures { OnOk result ((programme : Programme) → packets.old ≡ planned programme → packets.new ≡ (cast_of programme).packets) }
 {
-    packets.sort_unstable_by(|p, q| order(p, q));
+    packets.sort_by(alloc, |p, q| order(p, q))?;
+    Ok(())
 }

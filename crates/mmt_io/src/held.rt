@@ -60,7 +60,7 @@ impl MemoryShelf {
     }
 
     /// Puts a file of this name on the shelf, in place of the one that it may have. It takes memory for
-    /// the name, and is refused for want of memory alone; then the shelf is as it was.
+    /// the name, and is refused only where there is no memory; then the shelf is as it was.
     pub fn put(&mut self, name: &str, bytes: Vec<u8>) -> Result<(), OutOfMemory>
         ensures files { OnOk result ((n : List ℕ) → file_in self.new.files n ≡ (if bytes_eq n name.now then Some bytes.items else file_in self.old.files n)) }
         ensures kept { self.new ≡ record self.old { files = self.new.files } }
@@ -76,8 +76,8 @@ impl MemoryShelf {
     }
 }
 
-// Copies the bytes of a file from a place on, as many as fit and are there.
-fn copy_from(bytes: &[u8], at: u64, buf: &mut [u8]) -> usize
+/// Copies the bytes of a file from a place on, as many as fit and are there.
+pub(crate) fn copy_from(bytes: &[u8], at: u64, buf: &mut [u8]) -> usize
     ensures count { result ≡ min (length buf.old) (length (drop at bytes.now)) }
     ensures given { buf.new ≡ take result (drop at bytes.now) ++ drop result buf.old }
 {

@@ -24,7 +24,7 @@ use Rattle.mmt_send.specs.declared.ends.SendEnd.TheVariants as sends
 use Rattle.mmt_mux.specs.declared.ends.MuxEnd.{MuxEnd}
 use Rattle.mmt_mux.specs.declared.ends.MuxEnd.TheVariants as ends
 
--- the end is Done exactly where the stream is sent, and otherwise the first reason against it, faults and want of memory aside
+-- the end is Done exactly where the stream is sent, and otherwise the first reason against it, faults and `OutOfMemory` aside
 abbrev pub IsMuxAnswer : Result Programme Why → Result (Unit {0}) MuxEnd → Type 0
 IsMuxAnswer checks (Ok x) = (p : Programme) × (checks ≡ Ok p)
 IsMuxAnswer checks (Err (ends.Refused reason place)) = checks ≡ Err (Refused (record { reason = reason; place = place }))

@@ -111,3 +111,45 @@ fn a_file_that_shrinks_has_a_short_unit(rt: HostRuntime) -> Result<(), Fail> {
     assert_eq!(rt; port.written().len(), 204);
     Ok(())
 }
+
+// The plan with so many tables, a hundred ticks apart, and the item after 258 of them.
+fn plan_of(alloc: Global, tables: u32) -> Result<String, Fail> {
+    let (before, rest) = PLAN.split_once("\"bound\":4000").ok_or("no bound")?;
+    let (between, rest) = rest.split_once("{\"at\":100,").ok_or("no table")?;
+    let (entry, rest) = rest.split_once("}").ok_or("no end of it")?;
+    let (assets, item) = rest.split_once("\"at\":200").ok_or("no item")?;
+    let mut plan = format!(in alloc; "{before}\"bound\":40000{between}")?;
+    for number in 0..tables {
+        if number > 0 {
+            plan.push(',')?;
+        }
+        let at = number.wrapping_add(1).wrapping_mul(100);
+        write!(plan, "{{\"at\":{at},{entry}}}")?;
+    }
+    write!(plan, "{assets}\"at\":30000{item}")?;
+    Ok(plan)
+}
+
+#[test]
+fn the_version_of_a_table_goes_from_255_to_0(rt: HostRuntime) -> Result<(), Fail> {
+    let alloc = rt.alloc();
+    let plan = plan_of(alloc, 258)?;
+    let mut shelf = shelf(alloc)?;
+    shelf.put("plan.json", plan.into_bytes())?;
+    let mut port = MemoryPort::new(alloc, Vec::new(alloc), 260, 40_000, Vec::new(alloc))?;
+    assert_eq!(rt; mux(alloc, "plan.json", &mut shelf, &mut port), Ok(()));
+    let written = port.written();
+    assert_eq!(rt; written.len(), 83 + 258 * 121 + 79);
+    // Behind the buffer message and the tables stands the item.
+    let tables = written.get(83..83 + 258 * 121).ok_or("no tables")?;
+    let mut number = 0u32;
+    for packet in tables.chunks(121) {
+        let version = (number % 256) as u8;
+        // The version stands in the message's directory and in the table.
+        assert_eq!(rt; packet.get(75), Some(&version), "table {number}");
+        assert_eq!(rt; packet.get(79), Some(&version), "table {number}");
+        number = number.wrapping_add(1);
+    }
+    assert_eq!(rt; number, 258);
+    Ok(())
+}

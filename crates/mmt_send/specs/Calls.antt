@@ -1,7 +1,8 @@
 -- Where an addresser is: before which call (this project's rule).
-use Rattle.std.specs.Prelude.{◌≡◌, ◌≢◌, ℕ, ◌<◌, ◌^◌}
+use Rattle.std.specs.Prelude.{◌≡◌, ◌≢◌, ℕ, ◌<◌, ◌^◌, List, [], ◌++◌}
 use Rattle.mmt_ctx.specs.Squeezing.{IsAtCall}
 use Rattle.mmt_sent.specs.Packets.{Addressing}
+use Rattle.mmt_tlv.specs.Framing.{Packet, spelling}
 use Rattle.mmt_send.specs.declared.addressing.Addresser.{Addresser}
 use Rattle.mmt_send.specs.declared.addressing.Addresser.TheVariants.{Plain, Squeezed}
 
@@ -18,3 +19,7 @@ FitsLabel (Squeezed squeezer) = Unit {0}
 -- an addresser is before some call
 abbrev pub HasCall : Addresser → Type 0
 HasCall addresser = (a : Addressing) × (call : ℕ) × IsAt a call addresser
+
+-- bytes are those of a TLV packet but for its length, which is still 0 (ARIB STD-B32 Part 3, the TLV packet)
+abbrev pub IsBegun : List ℕ → Packet → Type 0
+IsBegun bytes packet = bytes ≡ spelling (record { kind = packet.kind; body = [] }) ++ packet.body

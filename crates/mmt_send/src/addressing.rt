@@ -1,11 +1,11 @@
 //! The TLV packets of one flow, call by call.
 
-ghost use Rattle.std.specs.Prelude.{◌≡◌, ◌+◌, ◌≤◌, ◌<◌, ℕ, [], length, IfOk, OnOk};
+ghost use Rattle.std.specs.Prelude.{◌≡◌, ◌+◌, ◌^◌, ◌≤◌, ◌<◌, ◌++◌, ℕ, List, [], length, OnOk};
 ghost use Rattle.mmt_model.specs.Right.{IsRight};
 ghost use Rattle.mmt_sent.specs.Packets.{Addressing, addressed};
 ghost use Rattle.mmt_sent.specs.Stream.{addressing_of};
-ghost use Rattle.mmt_send.specs.Calls.{FitsLabel, HasCall, IsAt};
-ghost use Rattle.mmt_tlv.specs.Framing.{spelling};
+ghost use Rattle.mmt_send.specs.Calls.{FitsLabel, HasCall, IsAt, IsBegun};
+ghost use Rattle.mmt_tlv.specs.Framing.{Packet, spelling};
 
 use crate::made::Made;
 use mmt_base::OutOfMemory;
@@ -51,60 +51,61 @@ impl Addresser {
             Addresser::Squeezed(Squeezer::new(programme.context, programme.full_every, header))
         }
     }
+}
 
-    // Writes the body of the next packet into an empty vector, and answers its TLV packet type (ARIB STD-B32
-    // Part 3).
-    fn body(&mut self, out: &mut Vec<u8>, payload: &[u8]) -> Result<u8, OutOfMemory>
-        requires label { FitsLabel self.old }
-        requires call { HasCall self.old }
-        requires short { length payload.now ≤ 65000 }
-        requires empty { out.old.items ≡ [] }
-        ensures label { FitsLabel self.new }
-        ensures long { OnOk result (length out.new.items < 65536) }
-        ensures body { IfOk result (λ kind. (a : Addressing) (call : ℕ) → IsAt a call self.old → addressed a call payload.now ≡ record
-            { kind = kind; body = out.new.items }) }
-        ensures next { OnOk result ((a : Addressing) (call : ℕ) → IsAt a call self.old → IsAt a (call + 1) self.new) }
-    {
-        match self {
-            Addresser::Plain(header) => {
-                let packet = Ip6Udp {
-                    header: *header,
-                    summed: true,
-                    payload,
-                };
-                write_ip6udp(out, &packet)?;
-                Ok(2)
-            }
-            Addresser::Squeezed(squeezer) => {
-                squeezer.next(out, payload)?;
-                Ok(3)
-            }
-        }
+/// Ends a TLV packet of which all but the length of the body is written (ARIB STD-B32 Part 3).
+pub fn put_length(out: &mut Vec<u8>)
+    requires { length out.old.items < 65540 }
+    ensures { (packet : Packet) → IsBegun out.old.items packet → out.new.items ≡ spelling packet }
+{
+    // Fewer bytes begin no packet.
+    if out.len() >= 4 {
+        let length = out.len() - 4;
+        out[2] = (length / 256) as u8;
+        out[3] = (length % 256) as u8;
     }
+}
 
-    /// Makes the next packet in `made.outer` of the UDP payload that stands there: a TLV packet (ARIB STD-B32
-    /// Part 3), with its body in `made.inner`.
-    ///
-    /// # Errors
-    ///
-    /// `OutOfMemory`.
-    pub fn packet(&mut self, made: &mut Made) -> Result<(), OutOfMemory>
-        requires label { FitsLabel self.old }
-        requires call { HasCall self.old }
-        requires short { length made.old.outer.items ≤ 65000 }
-        ensures label { FitsLabel self.new }
-        ensures packet { OnOk result ((a : Addressing) (call : ℕ) → IsAt a call self.old → made.new.outer.items ≡ spelling
-            (addressed a call made.old.outer.items)) }
-        ensures next { OnOk result ((a : Addressing) (call : ℕ) → IsAt a call self.old → IsAt a (call + 1) self.new) }
-    {
-        made.inner.clear();
-        let kind = self.body(&mut made.inner, made.outer.as_slice())?;
-        made.outer.clear();
-        let tlv = Tlv {
-            kind,
-            body: made.inner.as_slice(),
-        };
-        write_tlv(&mut made.outer, &tlv)?;
-        Ok(())
-    }
+/// Makes a packet with these headers in `made.outer`: a TLV packet (ARIB STD-B32 Part 3) of plain IPv6, with the UDP
+/// payload that stands in `made.inner`.
+///
+/// # Errors
+///
+/// `OutOfMemory`.
+pub fn put_plain(header: &Ip6Header, made: &mut Made) -> Result<(), OutOfMemory>
+    requires label { header.now.flow_label < 2 ^ 20 }
+    requires short { length made.old.inner.items ≤ 65000 }
+    ensures { OnOk result ((a : Addressing) (call : ℕ) → IsAt a call (Addresser.Plain header.now) →
+        made.new.outer.items ≡ spelling (addressed a call made.old.inner.items)) }
+{
+    made.outer.clear();
+    write_tlv(&mut made.outer, &Tlv { kind: 2, body: &[] })?;
+    let packet = Ip6Udp {
+        header: *header,
+        summed: true,
+        payload: made.inner.as_slice(),
+    };
+    write_ip6udp(&mut made.outer, &packet)?;
+    put_length(&mut made.outer);
+    Ok(())
+}
+
+/// Begins the next packet with compressed headers in `out`, in place of what stands there: all of a TLV packet
+/// (ARIB STD-B32 Part 3) that comes before its UDP payload, without its length.
+///
+/// # Errors
+///
+/// `OutOfMemory`.
+pub fn begin_squeezed(squeezer: &mut Squeezer, out: &mut Vec<u8>) -> Result<(), OutOfMemory>
+    requires { HasCall (Addresser.Squeezed squeezer.old) }
+    ensures few { OnOk result (length out.new.items ≤ 49) }
+    ensures head { OnOk result ((a : Addressing) (call : ℕ) → IsAt a call (Addresser.Squeezed squeezer.old) →
+        (payload : List ℕ) → IsBegun (out.new.items ++ payload) (addressed a call payload)) }
+    ensures next { OnOk result ((a : Addressing) (call : ℕ) → IsAt a call (Addresser.Squeezed squeezer.old) →
+        IsAt a (call + 1) (Addresser.Squeezed squeezer.new)) }
+{
+    out.clear();
+    write_tlv(out, &Tlv { kind: 3, body: &[] })?;
+    squeezer.next(out, &[])?;
+    Ok(())
 }

@@ -1,6 +1,6 @@
 //! The packets of a cast as MMTP packets.
 
-ghost use Rattle.std.specs.Prelude.{◌≡◌, ◌≤◌, length, IsTrue, IfErr, OnOk};
+ghost use Rattle.std.specs.Prelude.{◌≡◌, ◌+◌, ◌≤◌, ◌++◌, length, IsTrue, IfErr, OnOk};
 ghost use Rattle.mmt_model.specs.Carrying.{Contents};
 ghost use Rattle.mmt_model.specs.declared.casts.Cast.{Cast as SentCast};
 ghost use Rattle.mmt_packet.specs.Spelling.{spelling};
@@ -13,7 +13,6 @@ ghost use Rattle.mmt_sent.specs.Payloads.{kind_of as kind_by, written};
 ghost use Rattle.mmt_sent.specs.Stream.{contents_sent};
 
 use crate::ends::SendEnd;
-use crate::made::Made;
 use crate::payloads::{Room, put_payload};
 use crate::units::Job;
 use mmt_io::Shelf;
@@ -33,18 +32,17 @@ fn kind_of(carries: Carries) -> Kind
     }
 }
 
-/// Makes an MMTP packet of the cast in `made.outer`, with its payload in `made.inner`: without packet counter and
-/// extension, and with reserved bits 0 (ISO/IEC 23008-1, the MMTP packet header).
+/// Appends an MMTP packet of the cast: without packet counter and extension, and with reserved bits 0 (ISO/IEC 23008-1, the MMTP packet header). The payload is written behind the header.
 ///
 /// # Errors
 ///
 /// Those of its payload.
-pub fn make_packet<H: Shelf>(
+pub fn put_packet<H: Shelf>(
     job: &Job<'_>,
     shelf: &mut H,
     sent: &Sent,
     room: &mut Room,
-    made: &mut Made,
+    out: &mut Vec<u8>,
 ) -> Result<(), SendEnd>
     requires job { HasCast job.now.programme.now job.now.cast.now }
     requires carried { IsCarried job.now.programme.now sent.now.carries }
@@ -54,17 +52,15 @@ pub fn make_packet<H: Shelf>(
         (H.faults shelf.new) }
     ensures cause { IfErr result (λ e. HasCause job.now.programme.now (H.tells shelf.old) (H.file shelf.old) (H.faults shelf.old)
         (H.faults shelf.new) e) }
-    ensures long { OnOk result (length made.new.outer.items ≤ 60034) }
+    ensures long { OnOk result (length out.new.items ≤ length out.old.items + 60034) }
     ensures packet { IsTrue (H.tells shelf.old) →
-        OnOk result (made.new.outer.items ≡ spelling
+        OnOk result (out.new.items ≡ out.old.items ++ spelling
         (mmtp_of job.now.cast.now (contents_sent job.now.programme.now (files_on (H.file shelf.old) job.now.programme.now))
         sent.now)) }
     ensures held { IsTrue (H.tells shelf.old) →
         OnOk result (AreHeld job.now.programme.now (files_on (H.file shelf.old) job.now.programme.now) sent.now.carries) }
 {
-    made.inner.clear();
-    put_payload(job, shelf, sent.carries, room, &mut made.inner)?;
-    let packet = Packet {
+    let header = Packet {
         counter: None,
         rap: sent.rap,
         reserved: 0,
@@ -73,9 +69,9 @@ pub fn make_packet<H: Shelf>(
         time: sent.at.low(),
         number: sent.number,
         extension: None,
-        payload: made.inner.as_slice(),
+        payload: &[],
     };
-    made.outer.clear();
-    write_packet(&mut made.outer, &packet)?;
+    write_packet(out, &header)?;
+    put_payload(job, shelf, sent.carries, room, out)?;
     Ok(())
 }

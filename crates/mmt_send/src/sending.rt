@@ -13,10 +13,10 @@ ghost use Rattle.mmt_send.specs.Writes.{AddsFront, EndsFor, HasBegun, IsReady, I
 ghost use Rattle.mmt_sent.specs.Stream.{packet_sent, stream};
 ghost use Rattle.mmt_tlv.specs.Framing.{spelling};
 
-use crate::addressing::Addresser;
+use crate::addressing::{Addresser, begin_squeezed, put_length, put_plain};
 use crate::ends::SendEnd;
 use crate::made::Made;
-use crate::packets::make_packet;
+use crate::packets::put_packet;
 use crate::payloads::Room;
 use crate::units::Job;
 use mmt_admit::Admitted;
@@ -66,9 +66,20 @@ impl Sender {
     {
         let packets = job.cast.packets.as_slice();
         let sent = packets[place];
-        make_packet(job, shelf, &sent, &mut self.room, &mut self.made)?;
-        self.addresser.packet(&mut self.made)?;
-        Ok(())
+        match &mut self.addresser {
+            Addresser::Plain(header) => {
+                self.made.inner.clear();
+                put_packet(job, shelf, &sent, &mut self.room, &mut self.made.inner)?;
+                put_plain(header, &mut self.made)?;
+                Ok(())
+            }
+            Addresser::Squeezed(squeezer) => {
+                begin_squeezed(squeezer, &mut self.made.outer)?;
+                put_packet(job, shelf, &sent, &mut self.room, &mut self.made.outer)?;
+                put_length(&mut self.made.outer);
+                Ok(())
+            }
+        }
     }
 
     // Makes and writes the packet at a place of the cast.

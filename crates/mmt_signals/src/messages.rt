@@ -61,7 +61,7 @@ fn put_table(
     put_assets(out, programme.assets.as_slice(), names);
 }
 
-/// Appends a PA message of version 0 with one table. Want of memory leaves `out` as it was.
+/// Appends a PA message of version 0 with one table. Where there is no memory, `out` stays as it was.
 #[tactic(auto, using(std::proofs::Common::append_assoc, crate::proofs::Tables::message_are, crate::proofs::Tables::table_parts))]
 pub(crate) fn put_pa(
     out: &mut Vec<u8>,
@@ -89,7 +89,7 @@ pub(crate) fn put_pa(
     Ok(())
 }
 
-/// Appends a buffer message of version 0. Want of memory leaves `out` as it was.
+/// Appends a buffer message of version 0. Where there is no memory, `out` stays as it was.
 #[tactic(auto, using(std::proofs::Common::append_assoc), unfolding(mmt_sig::specs::Message::message_spelling, mmt_sig::specs::Message::hrbm_bytes))]
 fn put_hrbm(out: &mut Vec<u8>, params: &Params) -> Result<(), OutOfMemory>
     ensures ok { OnOk result (out.new.items ≡ out.old.items

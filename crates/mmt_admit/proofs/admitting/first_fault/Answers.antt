@@ -13,39 +13,39 @@ pub returns-then-is_some-2 : goal.returns-then-is_some-2
 unfolding fault
 returns-then-is_some-2 c =
     none c.params_fault-params.result _ _ _ c.params_fault-params.ensures c.if-is_some.ensures
-    (found c.first_gap-gap.result _ _ (c.first_gap-gap.ensures ∙ ap (λ (ps : List Sent). first_below (fault_of_gap ps) (length ps)) c.as_slice-packets.ensures) c.if-is_some-2.ensures)
+    (found c.packet_faults-of_packets.result.gap _ _ (c.packet_faults-of_packets.ensures.gap ∙ ap (λ (ps : List Sent). first_below (fault_of_gap ps) (length ps)) c.as_slice-packets.ensures) c.if-is_some-2.ensures)
 
 pub returns-then-is_some-3 : goal.returns-then-is_some-3
 unfolding fault
 returns-then-is_some-3 c =
     none c.params_fault-params.result _ _ _ c.params_fault-params.ensures c.if-is_some.ensures
-    (none c.first_gap-gap.result _ _ _ (c.first_gap-gap.ensures ∙ ap (λ (ps : List Sent). first_below (fault_of_gap ps) (length ps)) c.as_slice-packets.ensures) c.if-is_some-2.ensures
-    (found c.first_number-number.result _ _ (c.first_number-number.ensures ∙ ap (λ (ps : List Sent). first_below (fault_of_number ps) (length ps)) c.as_slice-packets.ensures) c.if-is_some-3.ensures))
+    (none c.packet_faults-of_packets.result.gap _ _ _ (c.packet_faults-of_packets.ensures.gap ∙ ap (λ (ps : List Sent). first_below (fault_of_gap ps) (length ps)) c.as_slice-packets.ensures) c.if-is_some-2.ensures
+    (found c.packet_faults-of_packets.result.number _ _ (c.packet_faults-of_packets.ensures.number ∙ ap (λ (ps : List Sent). first_below (fault_of_number ps) (length ps)) c.as_slice-packets.ensures) c.if-is_some-3.ensures))
 
 pub returns-then-is_some-4 : goal.returns-then-is_some-4
 unfolding fault
 returns-then-is_some-4 c =
     none c.params_fault-params.result _ _ _ c.params_fault-params.ensures c.if-is_some.ensures
-    (none c.first_gap-gap.result _ _ _ (c.first_gap-gap.ensures ∙ ap (λ (ps : List Sent). first_below (fault_of_gap ps) (length ps)) c.as_slice-packets.ensures) c.if-is_some-2.ensures
-    (none c.first_number-number.result _ _ _ (c.first_number-number.ensures ∙ ap (λ (ps : List Sent). first_below (fault_of_number ps) (length ps)) c.as_slice-packets.ensures) c.if-is_some-3.ensures
-    (found c.first_unit-unit.result _ _ c.first_unit-unit.ensures c.if-is_some-4.ensures)))
+    (none c.packet_faults-of_packets.result.gap _ _ _ (c.packet_faults-of_packets.ensures.gap ∙ ap (λ (ps : List Sent). first_below (fault_of_gap ps) (length ps)) c.as_slice-packets.ensures) c.if-is_some-2.ensures
+    (none c.packet_faults-of_packets.result.number _ _ _ (c.packet_faults-of_packets.ensures.number ∙ ap (λ (ps : List Sent). first_below (fault_of_number ps) (length ps)) c.as_slice-packets.ensures) c.if-is_some-3.ensures
+    (found c.unit_faults-of_units.result.due _ _ c.unit_faults-of_units.ensures.due c.if-is_some-4.ensures)))
 
 pub returns-then-is_some-5 : goal.returns-then-is_some-5
 unfolding fault
 returns-then-is_some-5 c =
     none c.params_fault-params.result _ _ _ c.params_fault-params.ensures c.if-is_some.ensures
-    (none c.first_gap-gap.result _ _ _ (c.first_gap-gap.ensures ∙ ap (λ (ps : List Sent). first_below (fault_of_gap ps) (length ps)) c.as_slice-packets.ensures) c.if-is_some-2.ensures
-    (none c.first_number-number.result _ _ _ (c.first_number-number.ensures ∙ ap (λ (ps : List Sent). first_below (fault_of_number ps) (length ps)) c.as_slice-packets.ensures) c.if-is_some-3.ensures
-    (none c.first_unit-unit.result _ _ _ c.first_unit-unit.ensures c.if-is_some-4.ensures
+    (none c.packet_faults-of_packets.result.gap _ _ _ (c.packet_faults-of_packets.ensures.gap ∙ ap (λ (ps : List Sent). first_below (fault_of_gap ps) (length ps)) c.as_slice-packets.ensures) c.if-is_some-2.ensures
+    (none c.packet_faults-of_packets.result.number _ _ _ (c.packet_faults-of_packets.ensures.number ∙ ap (λ (ps : List Sent). first_below (fault_of_number ps) (length ps)) c.as_slice-packets.ensures) c.if-is_some-3.ensures
+    (none c.unit_faults-of_units.result.due _ _ _ c.unit_faults-of_units.ensures.due c.if-is_some-4.ensures
     (found c.first_copy-copy.result _ _ c.first_copy-copy.ensures c.if-is_some-5.ensures))))
 
 pub returns-then-is_some-6 : goal.returns-then-is_some-6
 unfolding fault
 returns-then-is_some-6 c =
     none c.params_fault-params.result _ _ _ c.params_fault-params.ensures c.if-is_some.ensures
-    (none c.first_gap-gap.result _ _ _ (c.first_gap-gap.ensures ∙ ap (λ (ps : List Sent). first_below (fault_of_gap ps) (length ps)) c.as_slice-packets.ensures) c.if-is_some-2.ensures
-    (none c.first_number-number.result _ _ _ (c.first_number-number.ensures ∙ ap (λ (ps : List Sent). first_below (fault_of_number ps) (length ps)) c.as_slice-packets.ensures) c.if-is_some-3.ensures
-    (none c.first_unit-unit.result _ _ _ c.first_unit-unit.ensures c.if-is_some-4.ensures
+    (none c.packet_faults-of_packets.result.gap _ _ _ (c.packet_faults-of_packets.ensures.gap ∙ ap (λ (ps : List Sent). first_below (fault_of_gap ps) (length ps)) c.as_slice-packets.ensures) c.if-is_some-2.ensures
+    (none c.packet_faults-of_packets.result.number _ _ _ (c.packet_faults-of_packets.ensures.number ∙ ap (λ (ps : List Sent). first_below (fault_of_number ps) (length ps)) c.as_slice-packets.ensures) c.if-is_some-3.ensures
+    (none c.unit_faults-of_units.result.due _ _ _ c.unit_faults-of_units.ensures.due c.if-is_some-4.ensures
     (none c.first_copy-copy.result _ _ _ c.first_copy-copy.ensures c.if-is_some-5.ensures
     (found c.first_load-load.result _ _ c.first_load-load.ensures c.if-is_some-6.ensures)))))
 
@@ -53,9 +53,9 @@ pub returns-then-is_some-7 : goal.returns-then-is_some-7
 unfolding fault
 returns-then-is_some-7 c =
     none c.params_fault-params.result _ _ _ c.params_fault-params.ensures c.if-is_some.ensures
-    (none c.first_gap-gap.result _ _ _ (c.first_gap-gap.ensures ∙ ap (λ (ps : List Sent). first_below (fault_of_gap ps) (length ps)) c.as_slice-packets.ensures) c.if-is_some-2.ensures
-    (none c.first_number-number.result _ _ _ (c.first_number-number.ensures ∙ ap (λ (ps : List Sent). first_below (fault_of_number ps) (length ps)) c.as_slice-packets.ensures) c.if-is_some-3.ensures
-    (none c.first_unit-unit.result _ _ _ c.first_unit-unit.ensures c.if-is_some-4.ensures
+    (none c.packet_faults-of_packets.result.gap _ _ _ (c.packet_faults-of_packets.ensures.gap ∙ ap (λ (ps : List Sent). first_below (fault_of_gap ps) (length ps)) c.as_slice-packets.ensures) c.if-is_some-2.ensures
+    (none c.packet_faults-of_packets.result.number _ _ _ (c.packet_faults-of_packets.ensures.number ∙ ap (λ (ps : List Sent). first_below (fault_of_number ps) (length ps)) c.as_slice-packets.ensures) c.if-is_some-3.ensures
+    (none c.unit_faults-of_units.result.due _ _ _ c.unit_faults-of_units.ensures.due c.if-is_some-4.ensures
     (none c.first_copy-copy.result _ _ _ c.first_copy-copy.ensures c.if-is_some-5.ensures
     (none c.first_load-load.result _ _ _ c.first_load-load.ensures c.if-is_some-6.ensures
     (found c.first_live-live.result _ _ c.first_live-live.ensures c.if-is_some-7.ensures))))))
@@ -64,43 +64,43 @@ pub returns-then-is_some-8 : goal.returns-then-is_some-8
 unfolding fault
 returns-then-is_some-8 c =
     none c.params_fault-params.result _ _ _ c.params_fault-params.ensures c.if-is_some.ensures
-    (none c.first_gap-gap.result _ _ _ (c.first_gap-gap.ensures ∙ ap (λ (ps : List Sent). first_below (fault_of_gap ps) (length ps)) c.as_slice-packets.ensures) c.if-is_some-2.ensures
-    (none c.first_number-number.result _ _ _ (c.first_number-number.ensures ∙ ap (λ (ps : List Sent). first_below (fault_of_number ps) (length ps)) c.as_slice-packets.ensures) c.if-is_some-3.ensures
-    (none c.first_unit-unit.result _ _ _ c.first_unit-unit.ensures c.if-is_some-4.ensures
+    (none c.packet_faults-of_packets.result.gap _ _ _ (c.packet_faults-of_packets.ensures.gap ∙ ap (λ (ps : List Sent). first_below (fault_of_gap ps) (length ps)) c.as_slice-packets.ensures) c.if-is_some-2.ensures
+    (none c.packet_faults-of_packets.result.number _ _ _ (c.packet_faults-of_packets.ensures.number ∙ ap (λ (ps : List Sent). first_below (fault_of_number ps) (length ps)) c.as_slice-packets.ensures) c.if-is_some-3.ensures
+    (none c.unit_faults-of_units.result.due _ _ _ c.unit_faults-of_units.ensures.due c.if-is_some-4.ensures
     (none c.first_copy-copy.result _ _ _ c.first_copy-copy.ensures c.if-is_some-5.ensures
     (none c.first_load-load.result _ _ _ c.first_load-load.ensures c.if-is_some-6.ensures
     (none c.first_live-live.result _ _ _ c.first_live-live.ensures c.if-is_some-7.ensures
-    (found c.first_key-key.result _ _ c.first_key-key.ensures c.if-is_some-8.ensures)))))))
+    (found c.unit_faults-of_units.result.key _ _ c.unit_faults-of_units.ensures.key c.if-is_some-8.ensures)))))))
 
 pub returns-then-is_some-9 : goal.returns-then-is_some-9
 unfolding fault
 returns-then-is_some-9 c =
     none c.params_fault-params.result _ _ _ c.params_fault-params.ensures c.if-is_some.ensures
-    (none c.first_gap-gap.result _ _ _ (c.first_gap-gap.ensures ∙ ap (λ (ps : List Sent). first_below (fault_of_gap ps) (length ps)) c.as_slice-packets.ensures) c.if-is_some-2.ensures
-    (none c.first_number-number.result _ _ _ (c.first_number-number.ensures ∙ ap (λ (ps : List Sent). first_below (fault_of_number ps) (length ps)) c.as_slice-packets.ensures) c.if-is_some-3.ensures
-    (none c.first_unit-unit.result _ _ _ c.first_unit-unit.ensures c.if-is_some-4.ensures
+    (none c.packet_faults-of_packets.result.gap _ _ _ (c.packet_faults-of_packets.ensures.gap ∙ ap (λ (ps : List Sent). first_below (fault_of_gap ps) (length ps)) c.as_slice-packets.ensures) c.if-is_some-2.ensures
+    (none c.packet_faults-of_packets.result.number _ _ _ (c.packet_faults-of_packets.ensures.number ∙ ap (λ (ps : List Sent). first_below (fault_of_number ps) (length ps)) c.as_slice-packets.ensures) c.if-is_some-3.ensures
+    (none c.unit_faults-of_units.result.due _ _ _ c.unit_faults-of_units.ensures.due c.if-is_some-4.ensures
     (none c.first_copy-copy.result _ _ _ c.first_copy-copy.ensures c.if-is_some-5.ensures
     (none c.first_load-load.result _ _ _ c.first_load-load.ensures c.if-is_some-6.ensures
     (none c.first_live-live.result _ _ _ c.first_live-live.ensures c.if-is_some-7.ensures
-    (none c.first_key-key.result _ _ _ c.first_key-key.ensures c.if-is_some-8.ensures
+    (none c.unit_faults-of_units.result.key _ _ _ c.unit_faults-of_units.ensures.key c.if-is_some-8.ensures
     (found c.start_fault-start.result _ _ (c.start_fault-start.ensures ∙ ap fault_of_start c.as_slice-packets.ensures) c.if-is_some-9.ensures))))))))
 
 pub returns : goal.returns
 unfolding fault
 returns c =
     none c.params_fault-params.result _ _ _ c.params_fault-params.ensures c.if-is_some.ensures
-    (none c.first_gap-gap.result _ _ _ (c.first_gap-gap.ensures ∙ ap (λ (ps : List Sent). first_below (fault_of_gap ps) (length ps)) c.as_slice-packets.ensures) c.if-is_some-2.ensures
-    (none c.first_number-number.result _ _ _ (c.first_number-number.ensures ∙ ap (λ (ps : List Sent). first_below (fault_of_number ps) (length ps)) c.as_slice-packets.ensures) c.if-is_some-3.ensures
-    (none c.first_unit-unit.result _ _ _ c.first_unit-unit.ensures c.if-is_some-4.ensures
+    (none c.packet_faults-of_packets.result.gap _ _ _ (c.packet_faults-of_packets.ensures.gap ∙ ap (λ (ps : List Sent). first_below (fault_of_gap ps) (length ps)) c.as_slice-packets.ensures) c.if-is_some-2.ensures
+    (none c.packet_faults-of_packets.result.number _ _ _ (c.packet_faults-of_packets.ensures.number ∙ ap (λ (ps : List Sent). first_below (fault_of_number ps) (length ps)) c.as_slice-packets.ensures) c.if-is_some-3.ensures
+    (none c.unit_faults-of_units.result.due _ _ _ c.unit_faults-of_units.ensures.due c.if-is_some-4.ensures
     (none c.first_copy-copy.result _ _ _ c.first_copy-copy.ensures c.if-is_some-5.ensures
     (none c.first_load-load.result _ _ _ c.first_load-load.ensures c.if-is_some-6.ensures
     (none c.first_live-live.result _ _ _ c.first_live-live.ensures c.if-is_some-7.ensures
-    (none c.first_key-key.result _ _ _ c.first_key-key.ensures c.if-is_some-8.ensures
+    (none c.unit_faults-of_units.result.key _ _ _ c.unit_faults-of_units.ensures.key c.if-is_some-8.ensures
     (none c.start_fault-start.result _ _ _ (c.start_fault-start.ensures ∙ ap fault_of_start c.as_slice-packets.ensures) c.if-is_some-9.ensures
     (c.first_mpu.ensures)))))))))
 
 pub first_load-load-requires-clause-in_order : goal.first_load-load-requires-clause-in_order
-first_load-load-requires-clause-in_order c = sorted-from c.args.cast.now.packets (nothing c.first_gap-gap.result _ (c.first_gap-gap.ensures ∙ ap (λ (ps : List Sent). first_below (fault_of_gap ps) (length ps)) c.as_slice-packets.ensures) c.if-is_some-2.ensures)
+first_load-load-requires-clause-in_order c = sorted-from c.args.cast.now.packets (nothing c.packet_faults-of_packets.result.gap _ (c.packet_faults-of_packets.ensures.gap ∙ ap (λ (ps : List Sent). first_below (fault_of_gap ps) (length ps)) c.as_slice-packets.ensures) c.if-is_some-2.ensures)
 
 pub first_load-load-requires-clause-window : goal.first_load-load-requires-clause-window
 first_load-load-requires-clause-window c = window-from c.args.cast.now.params (nothing c.params_fault-params.result _ c.params_fault-params.ensures c.if-is_some.ensures)

@@ -12,5 +12,5 @@ returns c =
     let same : length c.sort.new.packets ≡ length c.put_media.new.packets.items = omega (arith, c.sort.auto.packets, v) in
     let n : c.put_media.new.packets.len ≡ length c.put_media.new.packets.items = omega (arith, c.as_mut_slice.ensures.len, v) in
     put-together c.args.programme.now c.from_vec.result c.from_vec-2.result c.from_vec-3.result c.from_vec-4.result
-    (c.from_vec.ensures ∙ (packets-back c.put_media.new.packets.len c.sort.new.packets c.put_media.new.packets.items n same ∙ c.sort.ensures c.args.programme.now (c.as_mut_slice.ensures.value ∙ c.in_ok-put_media.ensures.packets)))
+    (c.from_vec.ensures ∙ (packets-back c.put_media.new.packets.len c.sort.new.packets c.put_media.new.packets.items n same ∙ c.in_ok-sort.ensures c.args.programme.now (c.as_mut_slice.ensures.value ∙ c.in_ok-put_media.ensures.packets)))
     (c.from_vec-2.ensures ∙ c.in_ok-put_media.ensures.units) (c.from_vec-3.ensures ∙ c.in_ok-mpus.ensures) (c.from_vec-4.ensures ∙ c.in_ok-copies.ensures)

@@ -1,5 +1,5 @@
 use Rattle.std.proofs.Common.{◌≤◌, length}
-use Rattle.mmt_io.proofs.folder.read_from.Given as goal
+use Rattle.mmt_io.proofs.ahead.Ahead.read.Given as goal
 
 abbrev pub invariant-loop : goal.invariant-loop
 invariant-loop g l = l.count ≤ length l.buf
