@@ -25,6 +25,32 @@ fn words_with_numbers(rt: HostRuntime) -> Result<(), Fail> {
 }
 
 #[test]
+fn numbers_of_one_to_twenty_digits(rt: HostRuntime) -> Result<(), Fail> {
+    let mut digits = Buffer::new();
+    let mut out = Vec::new(rt.alloc());
+    out.reserve(200)?;
+    let numbers: [u64; 11] = [
+        0,
+        9,
+        10,
+        99,
+        100,
+        987,
+        1000,
+        9876,
+        10000,
+        65535,
+        u64::MAX,
+    ];
+    for number in numbers {
+        put_number(&mut digits, &mut out, b" ", number);
+    }
+    let words: &[u8] = b" 0 9 10 99 100 987 1000 9876 10000 65535 18446744073709551615";
+    assert_eq!(rt; out.as_slice(), words);
+    Ok(())
+}
+
+#[test]
 fn words_of_signalling(rt: HostRuntime) -> Result<(), Fail> {
     let mut out = Vec::new(rt.alloc());
     out.reserve(200)?;

@@ -1,14 +1,10 @@
 use Rattle.std.proofs.Common.{arith, refl}
-use Rattle.mmt_words.proofs.Digits.{one, two, three, four}
-use Rattle.mmt_words.proofs.numbers.put_decimal.Goals as goal
-
-pub returns-then-tens-eq0-clause-items : goal.returns-then-tens-eq0-clause-items
-returns-then-tens-eq0-clause-items c =
-    rw (c.put_bytes.ensures.items, c.last_digit.ensures, one c.args.number (omega arith)) refl
+use Rattle.mmt_words.proofs.Digits.{two, three, four}
+use Rattle.mmt_words.proofs.numbers.put_digits.Goals as goal
 
 pub returns-then-hundreds-eq0-clause-items : goal.returns-then-hundreds-eq0-clause-items
 returns-then-hundreds-eq0-clause-items c =
-    rw (c.put_bytes-then-hundreds-eq0.ensures.items, c.last_digit-then-hundreds-eq0.ensures, c.last_digit-then-hundreds-eq0-2.ensures,
+    rw (c.put_bytes.ensures.items, c.last_digit.ensures, c.last_digit-2.ensures,
         two c.args.number (omega arith) (omega arith) (omega arith)) refl
 
 pub returns-then-thousands-eq0-clause-items : goal.returns-then-thousands-eq0-clause-items
