@@ -4,7 +4,7 @@ use Rattle.mmt_words.proofs.numbers.put_digits.Goals as goal
 
 pub returns-then-hundreds-eq0-clause-items : goal.returns-then-hundreds-eq0-clause-items
 returns-then-hundreds-eq0-clause-items c =
-    rw (c.put_bytes.ensures.items, c.last_digit.ensures, c.last_digit-2.ensures,
+    rw (c.put_bytes.ensures.items, c.last_digit.ensures, c.last_digit-then-hundreds-eq0.ensures,
         two c.args.number (omega arith) (omega arith) (omega arith)) refl
 
 pub returns-then-thousands-eq0-clause-items : goal.returns-then-thousands-eq0-clause-items
