@@ -1,10 +1,15 @@
 -- Ticks in which no known time is due.
-use Rattle.std.proofs.Common.{◌≡◌, ℕ, ◌+◌, ◌-◌, ◌%◌, ◌^◌, ◌<◌, ◌≤◌, Bool, true, false, ◌&&◌, ◌||◌, nat_le, cond, List, [], ◌∷◌, map, filter, refl, arith}
+use Rattle.std.proofs.Common.{◌≡◌, ℕ, suc, ◌+◌, ◌^◌, ◌<◌, ◌≤◌, Bool, true, false, ◌&&◌, ◌||◌, nat_le, cond, List, [], ◌∷◌, ◌++◌, map, filter, take, get_or, length, refl, ap, sym, subst, ◌∙◌, arith}
 use Rattle.std.specs.List.{list_any}
 use Rattle.std.proofs.lemmas.Bool.Decides.{nat_tests}
+use Rattle.std.proofs.lemmas.List.{map-append}
+use Rattle.std.proofs.lemmas.List.Folds.{list_any-append}
+use Rattle.std.proofs.Math.Seq.{take-suc}
 use Rattle.mmt_base.specs.Ticks.{ahead_of, due_of, low, is_passed}
+use Rattle.mmt_base.specs.declared.ticks.Ntp.{Ntp}
 use Rattle.mmt_model.specs.Entries.{Entry, forget}
 use Rattle.mmt_times.specs.Known.{has_due}
+use Rattle.mmt_times.specs.TimesLeft.{view_time}
 use Rattle.mmt_times.specs.Quiet.{is_soon, has_soon, IsQuiet, Within}
 
 none-by : {A : Type 0} (p q : A → Bool) (xs : List A) → ((x : A) → p x ≡ false → q x ≡ false) → list_any p xs ≡ false → list_any q xs ≡ false
@@ -73,3 +78,13 @@ more-times clock m n t ts l h k = rw h (fewer-times clock m n ts l k)
 
 pub more-entries : (clock m n : ℕ) (e : Entry) (es : List Entry) → n ≤ m → has_soon clock n e ≡ false → IsQuiet clock m es → IsQuiet clock n (e ∷ es)
 more-entries clock m n e es l h k = rw h (fewer-entries clock m n es l k)
+
+behind : (p : ℕ → Bool) (ts : List Ntp) (t : Ntp) → list_any p (map view_time ts) ≡ false → p t.0 ≡ false → list_any p (map view_time (ts ++ (t ∷ []))) ≡ false
+behind p ts t h k = rw (map-append view_time ts (t ∷ []), list_any-append p (map view_time ts) (t.0 ∷ []), h, k) refl
+
+-- one more time behind those that were looked at
+pub times-on : (clock m n i : ℕ) (ts : List Ntp) (t : Ntp) → i < length ts → n ≤ m → is_soon clock n (get_or ts i t).0 ≡ false → list_any (is_soon clock m) (map view_time (take i ts)) ≡ false → list_any (is_soon clock n) (map view_time (take (i + 1) ts)) ≡ false
+times-on clock m n i ts t l e h k =
+    let after : i + 1 ≡ suc i = omega arith in
+    subst (λ l. list_any (is_soon clock n) (map view_time l) ≡ false) (sym (ap (λ j. take j ts) after ∙ take-suc ts i t l))
+    (behind (is_soon clock n) (take i ts) (get_or ts i t) (fewer-times clock m n (map view_time (take i ts)) e k) h)

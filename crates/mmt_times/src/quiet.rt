@@ -27,10 +27,11 @@ fn quiet_times(times: &[Ntp], clock: Tick, most: u32) -> u32
     ensures at_most { result ≤ most }
     ensures quiet { list_any (is_soon clock.0 result) (map view_time times.now) ≡ false }
 {
-    match times.split_first() {
-        Some((time, rest)) => quiet_time(*time, clock, quiet_times(rest, clock, most)),
-        None => most,
+    let mut ticks = most;
+    for time in times {
+        ticks = quiet_time(*time, clock, ticks);
     }
+    ticks
 }
 
 // The same of the times of an entry.

@@ -25,6 +25,27 @@ fn words_with_numbers(rt: HostRuntime) -> Result<(), Fail> {
 }
 
 #[test]
+fn numbers_of_one_to_twenty_digits(rt: HostRuntime) -> Result<(), Fail> {
+    let mut digits = Buffer::new();
+    let mut out = Vec::new(rt.alloc());
+    out.reserve(400)?;
+    put_number(&mut digits, &mut out, b" ", 0);
+    put_number(&mut digits, &mut out, b" ", 9);
+    put_number(&mut digits, &mut out, b" ", 10);
+    put_number(&mut digits, &mut out, b" ", 99);
+    put_number(&mut digits, &mut out, b" ", 100);
+    put_number(&mut digits, &mut out, b" ", 987);
+    put_number(&mut digits, &mut out, b" ", 1000);
+    put_number(&mut digits, &mut out, b" ", 9876);
+    put_number(&mut digits, &mut out, b" ", 10000);
+    put_number(&mut digits, &mut out, b" ", 65535);
+    put_number(&mut digits, &mut out, b" ", u64::MAX);
+    let words: &[u8] = b" 0 9 10 99 100 987 1000 9876 10000 65535 18446744073709551615";
+    assert_eq!(rt; out.as_slice(), words);
+    Ok(())
+}
+
+#[test]
 fn words_of_signalling(rt: HostRuntime) -> Result<(), Fail> {
     let mut out = Vec::new(rt.alloc());
     out.reserve(200)?;

@@ -1,4 +1,4 @@
-use Rattle.std.proofs.Common.{arith, rules}
+use Rattle.std.proofs.Common.{rules}
 use Rattle.mmt_times.proofs.OneEach.{one-forget}
 use Rattle.mmt_times.proofs.Quietness.{quiet-forget}
 use Rattle.mmt_times.proofs.names.Names.forget.Goals as goal

@@ -1,4 +1,4 @@
-use Rattle.std.proofs.Common.{◌≡◌, false, ap, sym, ◌∙◌, arith, rules, refl}
+use Rattle.std.proofs.Common.{◌≡◌, false, rules, refl}
 use Rattle.std.specs.List.{list_any}
 use Rattle.mmt_times.specs.Known.{has_due}
 use Rattle.mmt_times.proofs.Quietness.{quiet-due}
