@@ -99,11 +99,11 @@ pub(crate) fn take_signals_of<P: Port>(
     ensures told { OnOk result (IsTold runs.new pool.now.kept names.new) }
     ensures names { Learns by.now
         (findings_of_signals by.now.timescale by.now.tuned (map heard pool.now.kept)
-            span.packet_id span.number (signals found.now))
+        span.packet_id span.number (signals found.now))
         names.old names.new result }
     ensures put { Notes P.tells P.history port.old port.new
         (lines_by by.now names.old (findings_of_signals by.now.timescale by.now.tuned (map heard pool.now.kept)
-            span.packet_id span.number (signals found.now))) result }
+        span.packet_id span.number (signals found.now))) result }
 {
     match found.head().part {
         Part::Whole => take_messages(port, pool, names, runs, by, found.messages()),
