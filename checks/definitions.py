@@ -37,7 +37,7 @@ def rows(crate, sources):
                 comment.append(line.strip()[3:])
                 continue
             name = re.match(r'\s*(?:(?:abbrev|unfoldable|opaque|syntax) )*pub (?:record |data )?([^\s:({]+)(?=[\s:({])', line)
-            if name and not line.startswith('  pub'):
+            if name and name[1] != 'use' and not line.startswith('  pub'):
                 what, source = told(comment) if comment else ('auxiliary', None)
                 source = source or sources.get((name[1], file), OWN)
                 yield '| `%s` | %s | %s | %s |\n' % (name[1], what.replace('|', '\\|'), file, source)

@@ -4,7 +4,7 @@ use Rattle.std.proofs.lemmas.List.{append_cancel_left}
 use Rattle.mmt_io.specs.History.{Event, bytes_noted}
 use Rattle.mmt_tlv.specs.Framing.{Packet}
 use Rattle.mmt_stream.specs.Consuming.{Meaning, Grows}
-use Rattle.mmt_stream.specs.Output.{IsPrefix}
+use Rattle.mmt_io.specs.Output.{IsPrefix}
 use Rattle.mmt_stream.specs.Streaming.{Ends, HasBegun, Does}
 use Rattle.mmt_stream.specs.declared.end.StreamEnd.{StreamEnd}
 use Rattle.mmt_stream.specs.declared.end.StreamEnd.TheVariants as end

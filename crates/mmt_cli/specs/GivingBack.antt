@@ -6,7 +6,7 @@ use Rattle.mmt_tlv.specs.Framing.{joined}
 use Rattle.mmt_model.specs.declared.programmes.Programme.{Programme}
 use Rattle.mmt_sent.specs.Stream.{stream_of}
 use Rattle.mmt_output.specs.Records.{records}
-use Rattle.mmt_stream.specs.Output.{IsPrefix}
+use Rattle.mmt_io.specs.Output.{IsPrefix}
 use Rattle.mmt_tune.specs.declared.config.Config.{Config}
 use Rattle.mmt_headline.specs.GivesBack.{NotesQuietly, Reaches}
 use Rattle.mmt_headline.specs.Taken.{expected_of}

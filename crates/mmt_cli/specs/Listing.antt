@@ -2,7 +2,7 @@
 use Rattle.std.specs.Prelude.{◌≡◌, ℕ, List, [], ◌++◌}
 use Rattle.mmt_io.specs.History.{Event, bytes_noted}
 use Rattle.mmt_tlv.specs.Framing.{Packet}
-use Rattle.mmt_stream.specs.Output.{Output}
+use Rattle.mmt_io.specs.Output.{Output}
 use Rattle.mmt_stream.specs.Consuming.{Meaning}
 use Rattle.mmt_stream.specs.Streaming.{Does}
 use Rattle.mmt_stream.specs.declared.end.StreamEnd.{StreamEnd}

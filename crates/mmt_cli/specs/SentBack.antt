@@ -8,7 +8,7 @@ use Rattle.mmt_model.specs.declared.programmes.Programme.{Programme}
 use Rattle.mmt_mux.specs.Sendable.{sendable}
 use Rattle.mmt_output.specs.Records.{records}
 use Rattle.mmt_send.specs.Files.{files_on}
-use Rattle.mmt_stream.specs.Output.{IsPrefix}
+use Rattle.mmt_io.specs.Output.{IsPrefix}
 use Rattle.mmt_tune.specs.declared.config.Config.{Config}
 use Rattle.mmt_headline.specs.GivesBack.{Reaches}
 use Rattle.mmt_headline.specs.Programmes.{IsSendable, Receives}

@@ -6,7 +6,7 @@ use Rattle.mmt_model.specs.declared.programmes.Programme.{Programme}
 use Rattle.mmt_output.specs.Records.{amount_of}
 use Rattle.mmt_recv.specs.Receiving.{all_units, summary_of}
 use Rattle.mmt_sent.specs.Stream.{stream_of}
-use Rattle.mmt_stream.specs.Output.{Output, output_of}
+use Rattle.mmt_io.specs.Output.{Output, output_of}
 use Rattle.mmt_stream.specs.Streaming.{Streams}
 use Rattle.mmt_stream.specs.declared.end.StreamEnd.{StreamEnd}
 use Rattle.mmt_stream.specs.declared.end.StreamEnd.TheVariants as end

@@ -12,7 +12,7 @@ use Rattle.mmt_output.specs.Records.{record_of, records}
 use Rattle.mmt_recv.specs.Noting.{noted}
 use Rattle.mmt_recv.specs.Receiving.{all_units, received, session_of, summary_of, units_left, units_out, values_of}
 use Rattle.mmt_stream.specs.Consuming.{Grows, Meaning}
-use Rattle.mmt_stream.specs.Output.{IsStartOf, Output, output_of}
+use Rattle.mmt_io.specs.Output.{IsPrefixOf, Output, output_of}
 use Rattle.mmt_stream.specs.Streaming.{Ends, HasBegun, IsAllRead}
 use Rattle.mmt_stream.specs.declared.end.StreamEnd.{StreamEnd}
 use Rattle.mmt_stream.proofs.Outputs.{same_output, start_trans}
@@ -90,26 +90,26 @@ start-packets (p ∷ ps) (q ∷ qs) rest e =
 
 -- what went out of the packets of a front of the bytes is a start of what belongs to the end
 start-of : (config : Config) (packets read : List Packet) (got tail left : List ℕ) (went : Output) → Framed (joined packets) packets [] → Framed got read tail → joined packets ≡ got ++ left
-    → (let m = taking config in IsStartOf went (m.so_far read) ⊎ (IsStartOf went (m.at_end read) × ((left ≡ []) ⊎ IsOutOfSync tail)))
-    → (let m = taking config in IsStartOf went (m.at_end packets))
+    → (let m = taking config in IsPrefixOf went (m.so_far read) ⊎ (IsPrefixOf went (m.at_end read) × ((left ≡ []) ⊎ IsOutOfSync tail)))
+    → (let m = taking config in IsPrefixOf went (m.at_end packets))
 start-of config packets read got tail left went whole framed taken (inl begun) =
     let m = taking config in
     let grows : Grows m = taking_grows config in
     let split : joined read ++ (tail ++ left) ≡ joined packets = sym (append_assoc (joined read) tail left) ∙ ap (λ (xs : List ℕ). xs ++ left) (sym framed.whole) ∙ sym taken in
     let others = start-packets read packets (tail ++ left) split in
-    let more : IsStartOf (m.so_far read) (m.so_far packets) = subst (λ (ps : List Packet). IsStartOf (m.so_far read) (m.so_far ps)) (sym others.1) (grows.more read others.0) in
+    let more : IsPrefixOf (m.so_far read) (m.so_far packets) = subst (λ (ps : List Packet). IsPrefixOf (m.so_far read) (m.so_far ps)) (sym others.1) (grows.more read others.0) in
     start_trans _ _ _ begun (start_trans _ _ _ more (grows.end packets))
 start-of config packets read got tail left went whole framed taken (inr (begun, inl none)) =
     let m = taking config in
     let all : joined packets ≡ got = taken ∙ ap (λ (xs : List ℕ). got ++ xs) none ∙ append-nil got in
     let same = one_framing got read packets tail [] framed (subst (λ (xs : List ℕ). Framed xs packets []) all whole) in
-    subst (λ (ps : List Packet). IsStartOf went (m.at_end ps)) same.0 begun
+    subst (λ (ps : List Packet). IsPrefixOf went (m.at_end ps)) same.0 begun
 start-of config packets read got tail left went whole framed taken (inr (begun, inr out)) =
     let good : Framed (got ++ left) read (tail ++ left) = out_for_good got left read tail framed out in
     let same = one_framing (got ++ left) read packets (tail ++ left) [] good (subst (λ (xs : List ℕ). Framed xs packets []) taken whole) in
     absurd (out_is_some tail left out same.1)
 
-same-start : (a b : Output) → a ≡ b → IsStartOf a b
+same-start : (a b : Output) → a ≡ b → IsPrefixOf a b
 same-start a b is = record {
   written = ([], sym (ap (λ (o : Output). o.written) is) ∙ sym (append-nil a.written));
   noted = ([], sym (ap (λ (o : Output). o.noted) is) ∙ sym (append-nil a.noted));
@@ -123,7 +123,7 @@ record WentOut (m : Meaning) (whole : List ℕ) (went : Output) : Type 0 where
   left : List ℕ
   framed : Framed got read tail
   taken : whole ≡ got ++ left
-  begun : IsStartOf went (m.so_far read) ⊎ (IsStartOf went (m.at_end read) × ((left ≡ []) ⊎ IsOutOfSync tail))
+  begun : IsPrefixOf went (m.so_far read) ⊎ (IsPrefixOf went (m.at_end read) × ((left ≡ []) ⊎ IsOutOfSync tail))
 
 module _ (m : Meaning) (limit : ℕ) (events : List Event) (unread whole : List ℕ) (taken : whole ≡ bytes_read events ++ unread) where
   halted : HasBegun m events → IsAllRead events unread → WentOut m whole (output_of events)
@@ -149,5 +149,5 @@ pub takes-start : ProgrammesAreReceived → TakesAStart
 takes-start theorem config programme files delivery limit outcome old new unread ok r of near s =
     let packets : List Packet = stream_of programme files delivery in
     let w = went-out (taking config) limit s.events unread (joined packets) s.passed.taken outcome s.ends in
-    subst (IsStartOf (output_of s.events)) (at-end config programme files delivery theorem ok r of near)
+    subst (IsPrefixOf (output_of s.events)) (at-end config programme files delivery theorem ok r of near)
     (start-of config packets w.read w.got w.tail w.left (output_of s.events) (streams-framed programme files delivery ok of) w.framed w.taken w.begun)

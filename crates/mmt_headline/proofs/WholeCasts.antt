@@ -30,7 +30,7 @@ use Rattle.mmt_model.specs.declared.programmes.Programme.{Programme}
 use Rattle.mmt_naming.specs.Findings.{names_in}
 use Rattle.mmt_io.specs.History.{bytes_written}
 use Rattle.mmt_output.specs.Records.{records}
-use Rattle.mmt_stream.specs.Output.{IsPrefix}
+use Rattle.mmt_io.specs.Output.{IsPrefix}
 use Rattle.mmt_sent.specs.Messages.{message_bytes}
 use Rattle.mmt_sent.specs.Stream.{contents_sent, stream}
 use Rattle.mmt_headline.proofs.InOrder.{IsNamedAt, Rise, complete-down, counted-down, down, down-is, filter-all, named-at, near-in-order, none-unless, numbers-of, places-below, rise-of, start-of, starts, tuned-in-order}

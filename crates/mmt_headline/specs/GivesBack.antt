@@ -11,7 +11,7 @@ use Rattle.mmt_recv.specs.Noting.{PlacedNote, lines_of}
 use Rattle.mmt_recv.specs.Receiving.{summary_of}
 use Rattle.mmt_recv.specs.declared.summary.Summary.{Summary}
 use Rattle.mmt_sent.specs.Stream.{stream_of}
-use Rattle.mmt_stream.specs.Output.{IsPrefix}
+use Rattle.mmt_io.specs.Output.{IsPrefix}
 use Rattle.mmt_stream.specs.Streaming.{Does}
 use Rattle.mmt_stream.specs.declared.end.StreamEnd.{StreamEnd}
 use Rattle.mmt_take.specs.Taking.{line_of, taking}

@@ -11,7 +11,7 @@ use Rattle.mmt_output.specs.Records.{records}
 use Rattle.mmt_recv.specs.Noting.{noted}
 use Rattle.mmt_recv.specs.Receiving.{summary_of}
 use Rattle.mmt_sent.specs.Stream.{contents_sent, stream_of}
-use Rattle.mmt_stream.specs.Output.{IsStartOf, Output, output_of}
+use Rattle.mmt_io.specs.Output.{IsPrefixOf, Output, output_of}
 use Rattle.mmt_stream.specs.Streaming.{Streams}
 use Rattle.mmt_stream.specs.declared.end.StreamEnd.{StreamEnd}
 use Rattle.mmt_take.specs.Taking.{line_of, placed, taking}
@@ -51,4 +51,4 @@ TakesAStart =
     (config : Config) (programme : Programme) (files : ℕ → List ℕ) (delivery : List ℕ) (limit : ℕ) (outcome : StreamEnd) (old new : List Event) (unread : List ℕ) → IsSendable programme files → Receives config programme
     → AreOf (cast_of programme).packets delivery → IsNear (cast_of programme) programme.full_every delivery
     → (s : Streams (taking config) limit outcome old new (joined (stream_of programme files delivery)) unread)
-    → IsStartOf (output_of s.events) (all_taken config programme files delivery)
+    → IsPrefixOf (output_of s.events) (all_taken config programme files delivery)

@@ -15,7 +15,7 @@ use Rattle.mmt_model.specs.Survival.{AreOf}
 use Rattle.mmt_model.specs.declared.programmes.Programme.{Programme}
 use Rattle.mmt_output.specs.Records.{records}
 use Rattle.mmt_sent.specs.Stream.{contents_sent, stream}
-use Rattle.mmt_stream.specs.Output.{IsPrefix}
+use Rattle.mmt_io.specs.Output.{IsPrefix}
 use Rattle.mmt_stream.specs.Streaming.{Does}
 use Rattle.mmt_stream.specs.declared.end.StreamEnd.{StreamEnd}
 use Rattle.mmt_take.specs.Taking.{taking}

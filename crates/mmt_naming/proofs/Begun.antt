@@ -2,7 +2,7 @@
 use Rattle.std.proofs.Common.{ℕ, List, [], ◌++◌, refl, sym, ◌∙◌, append_assoc, append-nil, subst}
 use Rattle.std.specs.Prelude.{Result, Ok, Err}
 use Rattle.mmt_io.specs.History.{Event}
-use Rattle.mmt_output.specs.Putting.{only_noted, Puts, PutsStart, Put}
+use Rattle.mmt_io.specs.Output.{only_noted, Puts, PutsPrefix, Put}
 use Rattle.mmt_output.proofs.Putting.{puts_nothing, puts_both, puts_and_start, start_of_part}
 use Rattle.mmt_naming.specs.Begun.{Begun}
 
@@ -19,15 +19,15 @@ begun_more old mid new all lines left b p = record {
 }
 
 -- a start of lines more
-pub begun_part : (old mid new : List Event) (all lines left : List ℕ) → Begun old mid all (lines ++ left) → PutsStart mid new (only_noted lines) → PutsStart old new (only_noted all)
+pub begun_part : (old mid new : List Event) (all lines left : List ℕ) → Begun old mid all (lines ++ left) → PutsPrefix mid new (only_noted lines) → PutsPrefix old new (only_noted all)
 begun_part old mid new all lines left b p =
-    subst (λ x. PutsStart old new (only_noted x)) (append_assoc b.front lines left ∙ sym b.whole)
+    subst (λ x. PutsPrefix old new (only_noted x)) (append_assoc b.front lines left ∙ sym b.whole)
     (start_of_part old new (only_noted (b.front ++ lines)) (only_noted left) (puts_and_start old mid new (only_noted b.front) (only_noted lines) b.puts p))
 
 -- the last lines, by a call
 pub begun_last : {T E : Type 0} (old mid new : List Event) (all lines : List ℕ) (result : Result T E) → Begun old mid all lines → Put mid new (only_noted lines) result → Put old new (only_noted all) result
 begun_last old mid new all lines (Ok answer) b p = subst (λ x. Puts old new (only_noted x)) (sym b.whole) (puts_both old mid new (only_noted b.front) (only_noted lines) b.puts p)
-begun_last old mid new all lines (Err reason) b p = subst (λ x. PutsStart old new (only_noted x)) (sym b.whole) (puts_and_start old mid new (only_noted b.front) (only_noted lines) b.puts p)
+begun_last old mid new all lines (Err reason) b p = subst (λ x. PutsPrefix old new (only_noted x)) (sym b.whole) (puts_and_start old mid new (only_noted b.front) (only_noted lines) b.puts p)
 
 -- all lines were noted
 pub begun_end : (old new : List Event) (all : List ℕ) → Begun old new all [] → Puts old new (only_noted all)

@@ -7,7 +7,7 @@ use Rattle.mmt_model.specs.Entries.{Entry, learn, learn_one}
 use Rattle.mmt_times.specs.Known.{Known}
 use Rattle.mmt_times.specs.Learning.{verdict}
 use Rattle.mmt_output.specs.Notes.{note_text}
-use Rattle.mmt_output.specs.Putting.{only_noted, Puts, PutsStart}
+use Rattle.mmt_io.specs.Output.{only_noted, Puts, PutsPrefix}
 use Rattle.mmt_naming.specs.Findings.{Finding, Remark, Naming, name_in, names_among, notes_of, notes_of_name}
 use Rattle.mmt_naming.specs.Lines.{learned_by, lines_of}
 use Rattle.mmt_naming.specs.Begun.{Begun}
@@ -57,7 +57,7 @@ lines_more place now old mid new whole before after fs left b is p =
     subst P (sym is) (begun_more old mid new whole (lines_of place now before.entries fs) (lines_of place now (learned_by now before fs).entries left) (subst (λ x. Begun old mid whole x) (lines_both place now before fs left) b) p)
 
 -- a start of their lines was noted
-pub lines_part : (place now : ℕ) (old mid new : List Event) (whole : List ℕ) (before : Known) (fs left : List Finding) → Begun old mid whole (lines_of place now before.entries (fs ++ left)) → PutsStart mid new (only_noted (lines_of place now before.entries fs))
-    → PutsStart old new (only_noted whole)
+pub lines_part : (place now : ℕ) (old mid new : List Event) (whole : List ℕ) (before : Known) (fs left : List Finding) → Begun old mid whole (lines_of place now before.entries (fs ++ left)) → PutsPrefix mid new (only_noted (lines_of place now before.entries fs))
+    → PutsPrefix old new (only_noted whole)
 lines_part place now old mid new whole before fs left b p =
     begun_part old mid new whole (lines_of place now before.entries fs) (lines_of place now (learned_by now before fs).entries left) (subst (λ x. Begun old mid whole x) (lines_both place now before fs left) b) p

@@ -5,7 +5,7 @@ use Rattle.mmt_io.specs.History.{Event}
 use Rattle.mmt_times.specs.Known.{Known}
 use Rattle.mmt_output.specs.Notes.{note_text}
 use Rattle.mmt_output.specs.declared.notes.Note.{Note}
-use Rattle.mmt_output.specs.Putting.{only_noted, Puts, PutsStart, Put}
+use Rattle.mmt_io.specs.Output.{only_noted, Puts, PutsPrefix, Put}
 use Rattle.mmt_output.proofs.Putting.{puts_nothing}
 use Rattle.mmt_naming.specs.Begun.{Begun}
 use Rattle.mmt_naming.specs.Findings.{Finding, Remark}
@@ -60,7 +60,7 @@ lines_step place now old mid new lines before after whole fs left split b is p =
     lines_more place now old mid new lines before after fs left (subst P split b) is p
 
 pub lines_stop : (place now : ℕ) (old mid new : List Event) (lines : List ℕ) (before : Known) (whole fs left : List Finding) → whole ≡ fs ++ left → Begun old mid lines (lines_of place now before.entries whole)
-    → PutsStart mid new (only_noted (lines_of place now before.entries fs)) → PutsStart old new (only_noted lines)
+    → PutsPrefix mid new (only_noted (lines_of place now before.entries fs)) → PutsPrefix old new (only_noted lines)
 lines_stop place now old mid new lines before whole fs left split b p =
     let P : List Finding → Type 0 = λ x. Begun old mid lines (lines_of place now before.entries x) in
     lines_part place now old mid new lines before fs left (subst P split b) p

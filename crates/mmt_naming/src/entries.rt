@@ -2,10 +2,10 @@
 
 ghost use Rattle.std.specs.Prelude.{◌≡◌, ◌+◌, ◌^◌, ◌<◌, ◌≤◌, [], ◌∷◌, map, length, slice_index, IsTrue, IsErrOf, OnOk};
 ghost use Rattle.std.specs.List.{AllByRecursion};
-ghost use Rattle.mmt_io.specs.Port.{Rose};
+ghost use Rattle.mmt_io.specs.Port.{OnlySends, Rose};
 ghost use Rattle.mmt_runs.specs.Told.{IsTold};
-ghost use Rattle.mmt_output.specs.Putting.{only_noted, Put};
-ghost use Rattle.mmt_naming.specs.Lines.{learned_by, lines_of};
+ghost use Rattle.mmt_io.specs.Output.{Notes};
+ghost use Rattle.mmt_naming.specs.Lines.{Learns, lines_by};
 ghost use Rattle.mmt_mpt.specs.Table.{mpt_id};
 ghost use Rattle.mmt_mpt.specs.TableReading.{mpt_of};
 ghost use Rattle.mmt_times.specs.EntryView.{view_entry};
@@ -35,14 +35,12 @@ fn take_entry<P: Port>(
     entry: &Entry<'_>,
 ) -> Result<(), Untold>
     requires told { IsTold runs.old pool.now.kept names.old }
-    ensures tells { P.tells port.new ≡ P.tells port.old }
-    ensures reads { P.read_faults port.new ≡ P.read_faults port.old }
-    ensures writes { P.write_faults port.old ≤ P.write_faults port.new }
+    ensures sends { OnlySends P.tells P.left P.read_faults P.write_faults port.old port.new }
     ensures cause { IsErrOf result Untold.WriteFault → Rose (P.write_faults port.old) (P.write_faults port.new) }
-    ensures left { IsTrue (P.tells port.old) → P.left port.new ≡ P.left port.old }
     ensures told { OnOk result (IsTold runs.new pool.now.kept names.new) }
-    ensures names { OnOk result (names.new ≡ learned_by by.now.clock.0 names.old (Naming message (view_entry entry.now) ∷ [])) }
-    ensures put { IsTrue (P.tells port.old) → Put (P.history port.old) (P.history port.new) (only_noted (lines_of by.now.place by.now.clock.0 names.old.entries (Naming message (view_entry entry.now) ∷ []))) result }
+    ensures names { Learns by.now (Naming message (view_entry entry.now) ∷ []) names.old names.new result }
+    ensures put { Notes P.tells P.history port.old port.new
+        (lines_by by.now names.old (Naming message (view_entry entry.now) ∷ [])) result }
 {
     let learned = names.learn(by.clock, entry);
     match learned {
@@ -68,14 +66,13 @@ fn take_name<P: Port>(
     requires told { IsTold runs.old pool.now.kept names.old }
     requires fits { spot.at + 2 ^ 17 < 2 ^ 32 }
     requires place { IsInTable (view_named named) }
-    ensures tells { P.tells port.new ≡ P.tells port.old }
-    ensures reads { P.read_faults port.new ≡ P.read_faults port.old }
-    ensures writes { P.write_faults port.old ≤ P.write_faults port.new }
+    ensures sends { OnlySends P.tells P.left P.read_faults P.write_faults port.old port.new }
     ensures cause { IsErrOf result Untold.WriteFault → Rose (P.write_faults port.old) (P.write_faults port.new) }
-    ensures left { IsTrue (P.tells port.old) → P.left port.new ≡ P.left port.old }
     ensures told { OnOk result (IsTold runs.new pool.now.kept names.new) }
-    ensures names { OnOk result (names.new ≡ learned_by by.now.clock.0 names.old (finding_of spot.message spot.at (view_named named.entry) ∷ [])) }
-    ensures put { IsTrue (P.tells port.old) → Put (P.history port.old) (P.history port.new) (only_noted (lines_of by.now.place by.now.clock.0 names.old.entries (finding_of spot.message spot.at (view_named named.entry) ∷ []))) result }
+    ensures names { Learns by.now (finding_of spot.message spot.at (view_named named.entry) ∷ [])
+        names.old names.new result }
+    ensures put { Notes P.tells P.history port.old port.new
+        (lines_by by.now names.old (finding_of spot.message spot.at (view_named named.entry) ∷ [])) result }
 {
     match named {
         Named::Entry(entry) => take_entry(port, pool, names, runs, by, spot.message, &entry),
@@ -103,14 +100,13 @@ fn take_names<P: Port>(
     requires told { IsTold runs.old pool.now.kept names.old }
     requires fits { spot.at + 2 ^ 17 < 2 ^ 32 }
     requires places { AllByRecursion IsInTable (named_left entries) }
-    ensures tells { P.tells port.new ≡ P.tells port.old }
-    ensures reads { P.read_faults port.new ≡ P.read_faults port.old }
-    ensures writes { P.write_faults port.old ≤ P.write_faults port.new }
+    ensures sends { OnlySends P.tells P.left P.read_faults P.write_faults port.old port.new }
     ensures cause { IsErrOf result Untold.WriteFault → Rose (P.write_faults port.old) (P.write_faults port.new) }
-    ensures left { IsTrue (P.tells port.old) → P.left port.new ≡ P.left port.old }
     ensures told { OnOk result (IsTold runs.new pool.now.kept names.new) }
-    ensures names { OnOk result (names.new ≡ learned_by by.now.clock.0 names.old (map (finding_of spot.message spot.at) (named_left entries.entry))) }
-    ensures put { IsTrue (P.tells port.old) → Put (P.history port.old) (P.history port.new) (only_noted (lines_of by.now.place by.now.clock.0 names.old.entries (map (finding_of spot.message spot.at) (named_left entries.entry)))) result }
+    ensures names { Learns by.now (map (finding_of spot.message spot.at) (named_left entries.entry))
+        names.old names.new result }
+    ensures put { Notes P.tells P.history port.old port.new
+        (lines_by by.now names.old (map (finding_of spot.message spot.at) (named_left entries.entry))) result }
 {
     for named in entries {
         match take_name(port, pool, names, runs, by, spot, named) {
@@ -135,14 +131,13 @@ pub(crate) fn take_mpt<P: Port>(
     requires fits { spot.at + 2 ^ 17 < 2 ^ 32 }
     requires len { length table.now < 2 ^ 17 }
     requires id { slice_index table.now 0 ≡ mpt_id }
-    ensures tells { P.tells port.new ≡ P.tells port.old }
-    ensures reads { P.read_faults port.new ≡ P.read_faults port.old }
-    ensures writes { P.write_faults port.old ≤ P.write_faults port.new }
+    ensures sends { OnlySends P.tells P.left P.read_faults P.write_faults port.old port.new }
     ensures cause { IsErrOf result Untold.WriteFault → Rose (P.write_faults port.old) (P.write_faults port.new) }
-    ensures left { IsTrue (P.tells port.old) → P.left port.new ≡ P.left port.old }
     ensures told { OnOk result (IsTold runs.new pool.now.kept names.new) }
-    ensures names { OnOk result (names.new ≡ learned_by by.now.clock.0 names.old (findings_of_mpt by.now.timescale spot.message spot.at (mpt_of table.now))) }
-    ensures put { IsTrue (P.tells port.old) → Put (P.history port.old) (P.history port.new) (only_noted (lines_of by.now.place by.now.clock.0 names.old.entries (findings_of_mpt by.now.timescale spot.message spot.at (mpt_of table.now)))) result }
+    ensures names { Learns by.now (findings_of_mpt by.now.timescale spot.message spot.at (mpt_of table.now))
+        names.old names.new result }
+    ensures put { Notes P.tells P.history port.old port.new
+        (lines_by by.now names.old (findings_of_mpt by.now.timescale spot.message spot.at (mpt_of table.now))) result }
 {
     match read_mpt(table) {
         Ok(mpt) => {

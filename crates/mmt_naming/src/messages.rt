@@ -2,10 +2,10 @@
 
 ghost use Rattle.std.specs.Prelude.{◌≡◌, ◌^◌, ◌<◌, ◌≤◌, length, IsTrue, IsErrOf, OnOk};
 ghost use Rattle.std.specs.List.{All};
-ghost use Rattle.mmt_io.specs.Port.{Rose};
+ghost use Rattle.mmt_io.specs.Port.{OnlySends, Rose};
 ghost use Rattle.mmt_runs.specs.Told.{IsTold};
-ghost use Rattle.mmt_output.specs.Putting.{only_noted, Put};
-ghost use Rattle.mmt_naming.specs.Lines.{learned_by, lines_of};
+ghost use Rattle.mmt_io.specs.Output.{Notes};
+ghost use Rattle.mmt_naming.specs.Lines.{Learns, lines_by};
 ghost use Rattle.mmt_sig.specs.View.{messages_left};
 ghost use Rattle.mmt_naming.specs.Findings.{findings_in, findings_from};
 
@@ -43,14 +43,13 @@ pub fn take_message<P: Port>(
 ) -> Result<(), Untold>
     requires told { IsTold runs.old pool.now.kept names.old }
     requires len { length bytes.now < 2 ^ 31 }
-    ensures tells { P.tells port.new ≡ P.tells port.old }
-    ensures reads { P.read_faults port.new ≡ P.read_faults port.old }
-    ensures writes { P.write_faults port.old ≤ P.write_faults port.new }
+    ensures sends { OnlySends P.tells P.left P.read_faults P.write_faults port.old port.new }
     ensures cause { IsErrOf result Untold.WriteFault → Rose (P.write_faults port.old) (P.write_faults port.new) }
-    ensures left { IsTrue (P.tells port.old) → P.left port.new ≡ P.left port.old }
     ensures told { OnOk result (IsTold runs.new pool.now.kept names.new) }
-    ensures names { OnOk result (names.new ≡ learned_by by.now.clock.0 names.old (findings_in by.now.timescale by.now.tuned message bytes.now)) }
-    ensures put { IsTrue (P.tells port.old) → Put (P.history port.old) (P.history port.new) (only_noted (lines_of by.now.place by.now.clock.0 names.old.entries (findings_in by.now.timescale by.now.tuned message bytes.now))) result }
+    ensures names { Learns by.now (findings_in by.now.timescale by.now.tuned message bytes.now)
+        names.old names.new result }
+    ensures put { Notes P.tells P.history port.old port.new
+        (lines_by by.now names.old (findings_in by.now.timescale by.now.tuned message bytes.now)) result }
 {
     match read_message(bytes) {
         Ok(Message::Pa(pa)) => {
@@ -96,14 +95,13 @@ pub fn take_messages<P: Port>(
     requires told { IsTold runs.old pool.now.kept names.old }
     requires within { All (λ m. length m < 2 ^ 31) (messages_left messages) }
     requires count { length (messages_left messages) < 2 ^ 32 }
-    ensures tells { P.tells port.new ≡ P.tells port.old }
-    ensures reads { P.read_faults port.new ≡ P.read_faults port.old }
-    ensures writes { P.write_faults port.old ≤ P.write_faults port.new }
+    ensures sends { OnlySends P.tells P.left P.read_faults P.write_faults port.old port.new }
     ensures cause { IsErrOf result Untold.WriteFault → Rose (P.write_faults port.old) (P.write_faults port.new) }
-    ensures left { IsTrue (P.tells port.old) → P.left port.new ≡ P.left port.old }
     ensures told { OnOk result (IsTold runs.new pool.now.kept names.new) }
-    ensures names { OnOk result (names.new ≡ learned_by by.now.clock.0 names.old (findings_from by.now.timescale by.now.tuned 0 (messages_left messages.entry))) }
-    ensures put { IsTrue (P.tells port.old) → Put (P.history port.old) (P.history port.new) (only_noted (lines_of by.now.place by.now.clock.0 names.old.entries (findings_from by.now.timescale by.now.tuned 0 (messages_left messages.entry)))) result }
+    ensures names { Learns by.now (findings_from by.now.timescale by.now.tuned 0 (messages_left messages.entry))
+        names.old names.new result }
+    ensures put { Notes P.tells P.history port.old port.new
+        (lines_by by.now names.old (findings_from by.now.timescale by.now.tuned 0 (messages_left messages.entry))) result }
 {
     let mut number: u32 = 0;
     for message in messages {

@@ -3,11 +3,11 @@
 ghost use Rattle.std.specs.Prelude.{◌≡◌, ◌≤◌, IsTrue, IsErrOf};
 ghost use Rattle.std.specs.List.{flat_map};
 ghost use Rattle.std.specs.Option.{option_to_list};
-ghost use Rattle.mmt_io.specs.Port.{Rose};
+ghost use Rattle.mmt_io.specs.Port.{OnlySends, Rose};
 ghost use Rattle.mmt_times.specs.EntryView.{view_entry};
 ghost use Rattle.mmt_times.specs.LearnedView.{view_learned};
 ghost use Rattle.mmt_output.specs.Notes.{note_text};
-ghost use Rattle.mmt_output.specs.Putting.{only_noted, Put};
+ghost use Rattle.mmt_io.specs.Output.{Notes};
 ghost use Rattle.mmt_naming.specs.Findings.{notes_of_name, are_same as same_by};
 
 use crate::by::By;
@@ -53,12 +53,10 @@ pub(crate) fn are_same(some: Params, others: Params) -> bool
 ///
 /// The port failed, and noted a start of the line, or there is no memory for it.
 pub(crate) fn tell_any<P: Port>(port: &mut P, by: &By, note: Option<Note>) -> Result<(), Untold>
-    ensures tells { P.tells port.new ≡ P.tells port.old }
-    ensures reads { P.read_faults port.new ≡ P.read_faults port.old }
-    ensures writes { P.write_faults port.old ≤ P.write_faults port.new }
+    ensures sends { OnlySends P.tells P.left P.read_faults P.write_faults port.old port.new }
     ensures cause { IsErrOf result Untold.WriteFault → Rose (P.write_faults port.old) (P.write_faults port.new) }
-    ensures left { IsTrue (P.tells port.old) → P.left port.new ≡ P.left port.old }
-    ensures put { IsTrue (P.tells port.old) → Put (P.history port.old) (P.history port.new) (only_noted (flat_map (note_text by.now.place) (option_to_list note))) result }
+    ensures put { Notes P.tells P.history port.old port.new
+        (flat_map (note_text by.now.place) (option_to_list note)) result }
 {
     match note {
         Some(note) => tell(by.alloc, port, by.place, &note),

@@ -2,10 +2,10 @@
 
 ghost use Rattle.std.specs.Prelude.{◌≡◌, ◌+◌, ◌*◌, ◌^◌, ◌<◌, ◌≤◌, length, slice_index, IsTrue, IsErrOf, OnOk};
 ghost use Rattle.std.specs.List.{All};
-ghost use Rattle.mmt_io.specs.Port.{Rose};
+ghost use Rattle.mmt_io.specs.Port.{OnlySends, Rose};
 ghost use Rattle.mmt_runs.specs.Told.{IsTold};
-ghost use Rattle.mmt_output.specs.Putting.{only_noted, Put};
-ghost use Rattle.mmt_naming.specs.Lines.{learned_by, lines_of};
+ghost use Rattle.mmt_io.specs.Output.{Notes};
+ghost use Rattle.mmt_naming.specs.Lines.{Learns, lines_by};
 ghost use Rattle.mmt_sig.specs.TableView.{view_table};
 ghost use Rattle.mmt_sig.specs.MessageView.{tables_left};
 ghost use Rattle.mmt_naming.specs.Findings.{findings_of_table, findings_of_tables};
@@ -37,14 +37,13 @@ fn take_table<P: Port>(
     requires fits { spot.at + 2 ^ 17 < 2 ^ 32 }
     requires len { length table.now.bytes.now < 2 ^ 17 }
     requires id { slice_index table.now.bytes.now 0 ≡ table.now.id }
-    ensures tells { P.tells port.new ≡ P.tells port.old }
-    ensures reads { P.read_faults port.new ≡ P.read_faults port.old }
-    ensures writes { P.write_faults port.old ≤ P.write_faults port.new }
+    ensures sends { OnlySends P.tells P.left P.read_faults P.write_faults port.old port.new }
     ensures cause { IsErrOf result Untold.WriteFault → Rose (P.write_faults port.old) (P.write_faults port.new) }
-    ensures left { IsTrue (P.tells port.old) → P.left port.new ≡ P.left port.old }
     ensures told { OnOk result (IsTold runs.new pool.now.kept names.new) }
-    ensures names { OnOk result (names.new ≡ learned_by by.now.clock.0 names.old (findings_of_table by.now.timescale spot.message spot.at (view_table table.now))) }
-    ensures put { IsTrue (P.tells port.old) → Put (P.history port.old) (P.history port.new) (only_noted (lines_of by.now.place by.now.clock.0 names.old.entries (findings_of_table by.now.timescale spot.message spot.at (view_table table.now)))) result }
+    ensures names { Learns by.now (findings_of_table by.now.timescale spot.message spot.at (view_table table.now))
+        names.old names.new result }
+    ensures put { Notes P.tells P.history port.old port.new
+        (lines_by by.now names.old (findings_of_table by.now.timescale spot.message spot.at (view_table table.now))) result }
 {
     if table.id != MPT {
         return Ok(());
@@ -66,14 +65,13 @@ pub(crate) fn take_tables<P: Port>(
     requires fits { spot.at + 2 ^ 17 * (length (tables_left tables) + 1) < 2 ^ 32 }
     requires within { All (λ t. length t.bytes < 2 ^ 17) (tables_left tables) }
     requires begin { All (λ t. slice_index t.bytes 0 ≡ t.id) (tables_left tables) }
-    ensures tells { P.tells port.new ≡ P.tells port.old }
-    ensures reads { P.read_faults port.new ≡ P.read_faults port.old }
-    ensures writes { P.write_faults port.old ≤ P.write_faults port.new }
+    ensures sends { OnlySends P.tells P.left P.read_faults P.write_faults port.old port.new }
     ensures cause { IsErrOf result Untold.WriteFault → Rose (P.write_faults port.old) (P.write_faults port.new) }
-    ensures left { IsTrue (P.tells port.old) → P.left port.new ≡ P.left port.old }
     ensures told { OnOk result (IsTold runs.new pool.now.kept names.new) }
-    ensures names { OnOk result (names.new ≡ learned_by by.now.clock.0 names.old (findings_of_tables by.now.timescale spot.message spot.at (tables_left tables.entry))) }
-    ensures put { IsTrue (P.tells port.old) → Put (P.history port.old) (P.history port.new) (only_noted (lines_of by.now.place by.now.clock.0 names.old.entries (findings_of_tables by.now.timescale spot.message spot.at (tables_left tables.entry)))) result }
+    ensures names { Learns by.now (findings_of_tables by.now.timescale spot.message spot.at (tables_left tables.entry))
+        names.old names.new result }
+    ensures put { Notes P.tells P.history port.old port.new
+        (lines_by by.now names.old (findings_of_tables by.now.timescale spot.message spot.at (tables_left tables.entry))) result }
 {
     let mut at = spot.at;
     for table in tables {

@@ -8,7 +8,7 @@ use Rattle.mmt_io.specs.History.{Event}
 use Rattle.mmt_model.specs.Counts.{counted}
 use Rattle.mmt_model.specs.Handing.{Presentation}
 use Rattle.mmt_output.specs.declared.handed.Handed.{Handed}
-use Rattle.mmt_output.specs.Putting.{only_written, Puts, PutsStart}
+use Rattle.mmt_io.specs.Output.{only_written, Puts, PutsPrefix}
 use Rattle.mmt_output.specs.Records.{record_of, records, amount_of}
 use Rattle.mmt_output.proofs.Putting.{puts_nothing, puts_both, puts_and_start, start_of_part}
 
@@ -65,9 +65,9 @@ hands_more told old mid new all left p n next count h more is counts = record {
       subst P (sym (records-push h.front p)) (puts_both old mid new (only_written (records h.front)) (only_written (record_of p)) (h.written t) (more t)));
 }
 
-pub hands_start : (told : Type 0) (old mid new : List Event) (all left : List Presentation) (p : Presentation) (n : Handed) → HandsOut told old mid all (p ∷ left) n → told → PutsStart mid new (only_written (record_of p)) → PutsStart old new (only_written (records all))
+pub hands_start : (told : Type 0) (old mid new : List Event) (all left : List Presentation) (p : Presentation) (n : Handed) → HandsOut told old mid all (p ∷ left) n → told → PutsPrefix mid new (only_written (record_of p)) → PutsPrefix old new (only_written (records all))
 hands_start told old mid new all left p n h t start =
-    let P : List ℕ → Type 0 = λ b. PutsStart old new (only_written b) in
+    let P : List ℕ → Type 0 = λ b. PutsPrefix old new (only_written b) in
     let is : (records h.front ++ record_of p) ++ records left ≡ records all = append_assoc (records h.front) (record_of p) (records left) ∙ (sym (flat_map-append record_of h.front (p ∷ left)) ∙ ap records (sym h.whole)) in
     subst P is (start_of_part old new (only_written (records h.front ++ record_of p)) (only_written (records left)) (puts_and_start old mid new (only_written (records h.front)) (only_written (record_of p)) (h.written t) start))
 

@@ -5,10 +5,9 @@ use Rattle.std.proofs.lemmas.List.{append-nil}
 use Rattle.mmt_io.specs.History.{Event}
 use Rattle.mmt_io.specs.History.Event.{In, Out, Note}
 use Rattle.mmt_io.specs.Port.{Sends}
-use Rattle.mmt_stream.specs.Output.{Output, nothing, followed, output_of, IsPrefix, IsStartOf, NoRead}
+use Rattle.mmt_io.specs.Output.{Output, nothing, followed, output_of, IsPrefix, IsPrefixOf, NoRead, only_written, only_noted, Puts, PutsPrefix, Put}
 use Rattle.mmt_stream.specs.Consuming.{Emits, EmitsStart}
 use Rattle.mmt_stream.proofs.Outputs.{followed-nothing, output_of-append, start_trans, start_of_both}
-use Rattle.mmt_output.specs.Putting.{only_written, only_noted, Puts, PutsStart, Put}
 
 no_read-append : (xs ys : List Event) → NoRead xs → NoRead ys → NoRead (xs ++ ys)
 no_read-append [] ys left right = right
@@ -20,14 +19,14 @@ prefix_behind : (a b c : List ℕ) → IsPrefix b c → IsPrefix (a ++ b) (a ++ 
 prefix_behind a b c (rest, is) = (rest, ap (λ x. a ++ x) is ∙ sym (append_assoc a b rest))
 
 -- a start behind an output is a start of both
-start_behind : (a b c : Output) → IsStartOf b c → IsStartOf (followed a b) (followed a c)
+start_behind : (a b c : Output) → IsPrefixOf b c → IsPrefixOf (followed a b) (followed a c)
 start_behind a b c s = record { written = prefix_behind a.written b.written c.written s.written; noted = prefix_behind a.noted b.noted c.noted s.noted }
 
 -- an output is a start of itself, and nothing is a start of each
-pub start_itself : (a : Output) → IsStartOf a a
+pub start_itself : (a : Output) → IsPrefixOf a a
 start_itself a = start_of_both a nothing a (followed-nothing a)
 
-pub start_nothing : (a : Output) → IsStartOf nothing a
+pub start_nothing : (a : Output) → IsPrefixOf nothing a
 start_nothing a = record { written = (a.written, refl); noted = (a.noted, refl) }
 
 -- nothing goes out
@@ -35,7 +34,7 @@ pub puts_nothing : (history : List Event) → Puts history history nothing
 puts_nothing history = record { events = []; history = sym (append-nil history); outputs = tt; output = refl }
 
 -- nothing of it goes out
-pub puts_none_of : (history : List Event) (whole : Output) → PutsStart history history whole
+pub puts_none_of : (history : List Event) (whole : Output) → PutsPrefix history history whole
 puts_none_of history whole = record { events = []; history = sym (append-nil history); outputs = tt; start = start_nothing whole }
 
 -- one output and then another
@@ -48,25 +47,25 @@ puts_both old mid new a b p q = record {
 }
 
 -- one output and then a start of another
-pub puts_and_start : (old mid new : List Event) (a b : Output) → Puts old mid a → PutsStart mid new b → PutsStart old new (followed a b)
+pub puts_and_start : (old mid new : List Event) (a b : Output) → Puts old mid a → PutsPrefix mid new b → PutsPrefix old new (followed a b)
 puts_and_start old mid new a b p q = record {
   events = p.events ++ q.events;
   history = q.history ∙ (ap (λ x. x ++ q.events) p.history ∙ append_assoc old p.events q.events);
   outputs = no_read-append p.events q.events p.outputs q.outputs;
-  start = subst (λ o. IsStartOf o (followed a b)) (sym (output_of-append p.events q.events ∙ ap (λ x. followed x (output_of q.events)) p.output)) (start_behind a (output_of q.events) b q.start);
+  start = subst (λ o. IsPrefixOf o (followed a b)) (sym (output_of-append p.events q.events ∙ ap (λ x. followed x (output_of q.events)) p.output)) (start_behind a (output_of q.events) b q.start);
 }
 
 -- a start of a start of the whole
-pub start_of : (old new : List Event) (a whole : Output) → IsStartOf a whole → PutsStart old new a → PutsStart old new whole
+pub start_of : (old new : List Event) (a whole : Output) → IsPrefixOf a whole → PutsPrefix old new a → PutsPrefix old new whole
 start_of old new a whole part p = record { events = p.events; history = p.history; outputs = p.outputs; start = start_trans (output_of p.events) a whole p.start part }
 
 -- a start of the first part is a start of both
-pub start_of_part : (old new : List Event) (a b : Output) → PutsStart old new a → PutsStart old new (followed a b)
+pub start_of_part : (old new : List Event) (a b : Output) → PutsPrefix old new a → PutsPrefix old new (followed a b)
 start_of_part old new a b = start_of old new a (followed a b) (start_of_both a b (followed a b) refl)
 
 -- all of it is a start of it
-pub puts_start : (old new : List Event) (whole : Output) → Puts old new whole → PutsStart old new whole
-puts_start old new whole p = record { events = p.events; history = p.history; outputs = p.outputs; start = subst (λ o. IsStartOf o whole) (sym p.output) (start_itself whole) }
+pub puts_start : (old new : List Event) (whole : Output) → Puts old new whole → PutsPrefix old new whole
+puts_start old new whole p = record { events = p.events; history = p.history; outputs = p.outputs; start = subst (λ o. IsPrefixOf o whole) (sym p.output) (start_itself whole) }
 
 -- one output and then a call
 pub puts_then : {T E : Type 0} (old mid new : List Event) (a b : Output) (result : Result T E) → Puts old mid a → Put mid new b result → Put old new (followed a b) result
@@ -77,7 +76,7 @@ puts_then old mid new a b (Err reason) p q = puts_and_start old mid new a b p q
 pub puts_written : (old new : List Event) (bytes : List ℕ) → new ≡ old ++ Out bytes ∷ [] → Puts old new (only_written bytes)
 puts_written old new bytes is = record { events = Out bytes ∷ []; history = is; outputs = tt; output = ap only_written (append-nil bytes) }
 
-pub start_written : (old new : List Event) (bytes : List ℕ) → (new ≡ old) ⊎ ((part rest : List ℕ) × (bytes ≡ part ++ rest) × (new ≡ old ++ Out part ∷ [])) → PutsStart old new (only_written bytes)
+pub start_written : (old new : List Event) (bytes : List ℕ) → (new ≡ old) ⊎ ((part rest : List ℕ) × (bytes ≡ part ++ rest) × (new ≡ old ++ Out part ∷ [])) → PutsPrefix old new (only_written bytes)
 start_written old new bytes (inl same) = record { events = []; history = same ∙ sym (append-nil old); outputs = tt; start = start_nothing (only_written bytes) }
 start_written old new bytes (inr (part, rest, split, is)) = record {
   events = Out part ∷ [];
@@ -94,7 +93,7 @@ put_written old new bytes (Err reason) sent = start_written old new bytes sent
 pub puts_noted : (old new : List Event) (bytes : List ℕ) → new ≡ old ++ Note bytes ∷ [] → Puts old new (only_noted bytes)
 puts_noted old new bytes is = record { events = Note bytes ∷ []; history = is; outputs = tt; output = ap only_noted (append-nil bytes) }
 
-pub start_noted : (old new : List Event) (bytes : List ℕ) → (new ≡ old) ⊎ ((part rest : List ℕ) × (bytes ≡ part ++ rest) × (new ≡ old ++ Note part ∷ [])) → PutsStart old new (only_noted bytes)
+pub start_noted : (old new : List Event) (bytes : List ℕ) → (new ≡ old) ⊎ ((part rest : List ℕ) × (bytes ≡ part ++ rest) × (new ≡ old ++ Note part ∷ [])) → PutsPrefix old new (only_noted bytes)
 start_noted old new bytes (inl same) = record { events = []; history = same ∙ sym (append-nil old); outputs = tt; start = start_nothing (only_noted bytes) }
 start_noted old new bytes (inr (part, rest, split, is)) = record {
   events = Note part ∷ [];
@@ -126,14 +125,14 @@ emits old new before out after more p = record {
       ∙ (ap₂ (λ x y. followed x y) (sym (followed-nothing done) ∙ is) p.output ∙ more);
 }
 
-pub emits_start : (old new : List Event) (before out after : Output) → followed before out ≡ after → PutsStart old new out → EmitsStart old new nothing before after
+pub emits_start : (old new : List Event) (before out after : Output) → followed before out ≡ after → PutsPrefix old new out → EmitsStart old new nothing before after
 emits_start old new before out after more p = record {
   events = p.events;
   history = p.history;
   outputs = p.outputs;
   output = λ done is.
       let first : done ≡ before = sym (followed-nothing done) ∙ is in
-      let P : Output → Type 0 = λ o. IsStartOf (followed o (output_of p.events)) after in
-      let Q : Output → Type 0 = λ o. IsStartOf (followed before (output_of p.events)) o in
+      let P : Output → Type 0 = λ o. IsPrefixOf (followed o (output_of p.events)) after in
+      let Q : Output → Type 0 = λ o. IsPrefixOf (followed before (output_of p.events)) o in
       subst P (sym first) (subst Q more (start_behind before (output_of p.events) out p.start));
 }

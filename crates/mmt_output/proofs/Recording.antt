@@ -7,7 +7,7 @@ use Rattle.mmt_io.specs.History.{Event}
 use Rattle.mmt_model.specs.Units.{joined}
 use Rattle.mmt_runs.specs.declared.order.UnitOrder.{UnitOrder}
 use Rattle.mmt_runs.specs.Lending.{Lending, the_presentation}
-use Rattle.mmt_output.specs.Putting.{only_written, Puts, PutsStart}
+use Rattle.mmt_io.specs.Output.{only_written, Puts, PutsPrefix}
 use Rattle.mmt_output.specs.Records.{timed_mark, key_bytes, header_of, record_of}
 use Rattle.mmt_output.proofs.Putting.{puts_both, puts_and_start, start_of_part}
 
@@ -35,10 +35,10 @@ unfolding record_of the_presentation
 begun old new l front is p = record { front = front; all = ap (λ x. x ++ joined l.left) (sym is); puts = p }
 
 -- a start of the header was written
-pub begun_start : (old new : List Event) (l : Lending) (front : List ℕ) → front ≡ header_of (the_presentation l) → PutsStart old new (only_written front) → PutsStart old new (only_written (record_of (the_presentation l)))
+pub begun_start : (old new : List Event) (l : Lending) (front : List ℕ) → front ≡ header_of (the_presentation l) → PutsPrefix old new (only_written front) → PutsPrefix old new (only_written (record_of (the_presentation l)))
 unfolding record_of the_presentation
 begun_start old new l front is p =
-    let P : List ℕ → Type 0 = λ x. PutsStart old new (only_written (x ++ joined l.left)) in
+    let P : List ℕ → Type 0 = λ x. PutsPrefix old new (only_written (x ++ joined l.left)) in
     subst P is (start_of_part old new (only_written front) (only_written (joined l.left)) p)
 
 -- one more part was written, or a start of it, or no part is left
@@ -49,9 +49,9 @@ begun_more old mid new whole part left b p = record {
   puts = puts_both old mid new (only_written b.front) (only_written part) b.puts p;
 }
 
-pub begun_part : (old mid new : List Event) (whole part : List ℕ) (left : List (List ℕ)) → Begun old mid whole (part ∷ left) → PutsStart mid new (only_written part) → PutsStart old new (only_written whole)
+pub begun_part : (old mid new : List Event) (whole part : List ℕ) (left : List (List ℕ)) → Begun old mid whole (part ∷ left) → PutsPrefix mid new (only_written part) → PutsPrefix old new (only_written whole)
 begun_part old mid new whole part left b p =
-    let P : List ℕ → Type 0 = λ x. PutsStart old new (only_written x) in
+    let P : List ℕ → Type 0 = λ x. PutsPrefix old new (only_written x) in
     subst P (append_assoc b.front part (joined left) ∙ sym b.all)
     (start_of_part old new (only_written (b.front ++ part)) (only_written (joined left)) (puts_and_start old mid new (only_written b.front) (only_written part) b.puts p))
 

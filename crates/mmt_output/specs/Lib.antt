@@ -1,3 +1,3 @@
+pub mod Due
 pub mod Notes
-pub mod Putting
 pub mod Records

@@ -1,12 +1,10 @@
 //! The media units that are due, handed out in their order.
 
-ghost use Rattle.std.specs.Prelude.{◌≡◌, ◌≤◌, IsTrue, IsErr, IfOk, map};
-ghost use Rattle.mmt_io.specs.Port.{Rose};
-ghost use Rattle.mmt_model.specs.Handing.{due_units};
-ghost use Rattle.mmt_model.specs.Units.{units_of};
-ghost use Rattle.mmt_runs.specs.Reading.{heard};
+ghost use Rattle.std.specs.Prelude.{◌≡◌, ◌≤◌, IsTrue, IsErr, IfOk};
+ghost use Rattle.mmt_io.specs.Port.{OnlySends, Rose};
 ghost use Rattle.mmt_runs.specs.Told.{IsTold};
-ghost use Rattle.mmt_output.specs.Putting.{only_written, Put};
+ghost use Rattle.mmt_io.specs.Output.{Writes};
+ghost use Rattle.mmt_output.specs.Due.{due_among};
 ghost use Rattle.mmt_output.specs.Records.{records, amount_of};
 
 use crate::handed::Handed;
@@ -32,13 +30,11 @@ pub fn hand_out<P: Port>(
     to: Tick,
 ) -> Result<Handed, Fault>
     requires { IsTold runs.now pool.now.kept names.now }
-    ensures tells { P.tells port.new ≡ P.tells port.old }
-    ensures reads { P.read_faults port.new ≡ P.read_faults port.old }
-    ensures writes { P.write_faults port.old ≤ P.write_faults port.new }
+    ensures sends { OnlySends P.tells P.left P.read_faults P.write_faults port.old port.new }
     ensures cause { IsErr result → Rose (P.write_faults port.old) (P.write_faults port.new) }
-    ensures left { IsTrue (P.tells port.old) → P.left port.new ≡ P.left port.old }
-    ensures put { IsTrue (P.tells port.old) → Put (P.history port.old) (P.history port.new) (only_written (records (due_units names.now.sample_base names.now.entries (units_of (map heard pool.now.kept)) from.0 to.0))) result }
-    ensures counts { IfOk result (λ handed. handed ≡ amount_of (due_units names.now.sample_base names.now.entries (units_of (map heard pool.now.kept)) from.0 to.0)) }
+    ensures put { Writes P.tells P.history port.old port.new
+        (records (due_among names.now pool.now.kept from.0 to.0)) result }
+    ensures counts { IfOk result (λ handed. handed ≡ amount_of (due_among names.now pool.now.kept from.0 to.0)) }
 {
     let mut after: Option<UnitOrder> = None;
     let mut handed = Handed::nothing();

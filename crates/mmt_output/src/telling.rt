@@ -1,9 +1,9 @@
 //! The notes of a receiver, on a port's channel for notes.
 
 ghost use Rattle.std.specs.Prelude.{◌≡◌, ◌≤◌, IfOk, IsTrue, IsErrOf};
-ghost use Rattle.mmt_io.specs.Port.{Rose};
+ghost use Rattle.mmt_io.specs.Port.{OnlySends, Rose};
 ghost use Rattle.mmt_output.specs.Notes.{note_text};
-ghost use Rattle.mmt_output.specs.Putting.{only_noted, Put};
+ghost use Rattle.mmt_io.specs.Output.{Notes};
 
 use crate::notes::Note;
 use crate::texts::{NOTE, put_note};
@@ -38,13 +38,10 @@ fn line_of(alloc: Global, place: u64, note: Note) -> Result<Vec<u8>, OutOfMemory
 /// The port failed, and noted a start of the line, or there is no memory for the line, and nothing
 /// was noted.
 pub fn tell<P: Port>(alloc: Global, port: &mut P, place: u64, note: &Note) -> Result<(), Untold>
-    ensures tells { P.tells port.new ≡ P.tells port.old }
-    ensures reads { P.read_faults port.new ≡ P.read_faults port.old }
-    ensures writes { P.write_faults port.old ≤ P.write_faults port.new }
+    ensures sends { OnlySends P.tells P.left P.read_faults P.write_faults port.old port.new }
     ensures cause { IsErrOf result Untold.WriteFault → Rose (P.write_faults port.old) (P.write_faults port.new) }
-    ensures left { IsTrue (P.tells port.old) → P.left port.new ≡ P.left port.old }
     ensures memory { IsErrOf result Untold.OutOfMemory → port.new ≡ port.old }
-    ensures put { IsTrue (P.tells port.old) → Put (P.history port.old) (P.history port.new) (only_noted (note_text place note.now)) result }
+    ensures put { Notes P.tells P.history port.old port.new (note_text place note.now) result }
 {
     let line = match line_of(alloc, place, *note) {
         Ok(line) => line,

@@ -1,9 +1,9 @@
 //! The record of a media unit, written part by part.
 
 ghost use Rattle.std.specs.Prelude.{◌≡◌, ◌≤◌, [], IsTrue, IsErr};
-ghost use Rattle.mmt_io.specs.Port.{Rose};
+ghost use Rattle.mmt_io.specs.Port.{OnlySends, Rose};
 ghost use Rattle.mmt_runs.specs.Lending.{the_presentation};
-ghost use Rattle.mmt_output.specs.Putting.{only_written, Put};
+ghost use Rattle.mmt_io.specs.Output.{Writes};
 ghost use Rattle.mmt_output.specs.Records.{record_of};
 
 use crate::headers::header;
@@ -12,12 +12,9 @@ use mmt_runs::UnitParts;
 
 // Writes the bytes by one call of the port, where there are any, and else by none.
 fn write_part<P: Port>(port: &mut P, part: &[u8]) -> Result<(), Fault>
-    ensures tells { P.tells port.new ≡ P.tells port.old }
-    ensures reads { P.read_faults port.new ≡ P.read_faults port.old }
-    ensures writes { P.write_faults port.old ≤ P.write_faults port.new }
+    ensures sends { OnlySends P.tells P.left P.read_faults P.write_faults port.old port.new }
     ensures cause { IsErr result → Rose (P.write_faults port.old) (P.write_faults port.new) }
-    ensures left { IsTrue (P.tells port.old) → P.left port.new ≡ P.left port.old }
-    ensures put { IsTrue (P.tells port.old) → Put (P.history port.old) (P.history port.new) (only_written part.now) result }
+    ensures put { Writes P.tells P.history port.old port.new part.now result }
     ensures empty { IsTrue (P.tells port.old) → part.now ≡ [] → P.history port.new ≡ P.history port.old }
 {
     if part.is_empty() {
@@ -36,12 +33,9 @@ fn write_part<P: Port>(port: &mut P, part: &[u8]) -> Result<(), Fault>
 ///
 /// The port failed, and wrote a start of the record.
 pub fn write_unit<P: Port>(port: &mut P, unit: UnitParts<'_>) -> Result<(), Fault>
-    ensures tells { P.tells port.new ≡ P.tells port.old }
-    ensures reads { P.read_faults port.new ≡ P.read_faults port.old }
-    ensures writes { P.write_faults port.old ≤ P.write_faults port.new }
+    ensures sends { OnlySends P.tells P.left P.read_faults P.write_faults port.old port.new }
     ensures cause { IsErr result → Rose (P.write_faults port.old) (P.write_faults port.new) }
-    ensures left { IsTrue (P.tells port.old) → P.left port.new ≡ P.left port.old }
-    ensures put { IsTrue (P.tells port.old) → Put (P.history port.old) (P.history port.new) (only_written (record_of (the_presentation unit.entry))) result }
+    ensures put { Writes P.tells P.history port.old port.new (record_of (the_presentation unit.entry)) result }
 {
     let mut unit = unit;
     let order = unit.order();

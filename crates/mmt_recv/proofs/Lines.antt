@@ -4,7 +4,7 @@ use Rattle.std.proofs.lemmas.List.{map-append}
 use Rattle.std.proofs.lemmas.Grind.{flat_map-append}
 use Rattle.std.specs.Prelude.{Result}
 use Rattle.mmt_io.specs.History.{Event}
-use Rattle.mmt_output.specs.Putting.{only_noted, Put}
+use Rattle.mmt_io.specs.Output.{only_noted, Put}
 use Rattle.mmt_sig.specs.MessageReading.{message_of}
 use Rattle.mmt_output.specs.declared.notes.Note.{Note}
 use Rattle.mmt_output.specs.Notes.{note_text}

@@ -23,7 +23,7 @@ use Rattle.mmt_model.proofs.Sessions.{clock_next, entries_next, handed_is, kept_
 use Rattle.mmt_naming.specs.Findings.{findings_by, names_in, notes_of}
 use Rattle.mmt_output.specs.declared.handed.Handed.{Handed}
 use Rattle.mmt_output.specs.Records.{amount_of, records}
-use Rattle.mmt_output.specs.Putting.{only_noted, only_written, Puts, PutsStart}
+use Rattle.mmt_io.specs.Output.{only_noted, only_written, Puts, PutsPrefix}
 use Rattle.mmt_output.proofs.Putting.{puts_and_start, puts_both, start_of_part}
 use Rattle.mmt_output.proofs.Amounts.{amounts_joined}
 use Rattle.mmt_recv.specs.Noting.{at_place, kind_notes, lines_of, outcome_notes, payload_place, tuned_notes}
@@ -154,10 +154,10 @@ pub puts_next : (old mid new : List Event) (written noted written' noted' : List
 puts_next old mid new written noted written' noted' w n p q =
     subst (λ o. Puts old new o) (λ i. record { written = (append-nil written ∙ w) i; noted = n i }) (puts_both old mid new (only_written written) (only_noted noted) p q)
 
-pub starts_next : (old mid new : List Event) (written noted written' noted' : List ℕ) → written ≡ written' → noted ≡ noted' → Puts old mid (only_written written) → PutsStart mid new (only_noted noted) → PutsStart old new (record { written = written'; noted = noted' })
+pub starts_next : (old mid new : List Event) (written noted written' noted' : List ℕ) → written ≡ written' → noted ≡ noted' → Puts old mid (only_written written) → PutsPrefix mid new (only_noted noted) → PutsPrefix old new (record { written = written'; noted = noted' })
 starts_next old mid new written noted written' noted' w n p q =
-    subst (λ o. PutsStart old new o) (λ i. record { written = (append-nil written ∙ w) i; noted = n i }) (puts_and_start old mid new (only_written written) (only_noted noted) p q)
+    subst (λ o. PutsPrefix old new o) (λ i. record { written = (append-nil written ∙ w) i; noted = n i }) (puts_and_start old mid new (only_written written) (only_noted noted) p q)
 
-pub starts_first : (old mid : List Event) (written written' noted' : List ℕ) → written ≡ written' → PutsStart old mid (only_written written) → PutsStart old mid (record { written = written'; noted = noted' })
+pub starts_first : (old mid : List Event) (written written' noted' : List ℕ) → written ≡ written' → PutsPrefix old mid (only_written written) → PutsPrefix old mid (record { written = written'; noted = noted' })
 starts_first old mid written written' noted' w p =
-    subst (λ o. PutsStart old mid o) (λ i. record { written = (append-nil written ∙ w) i; noted = noted' }) (start_of_part old mid (only_written written) (only_noted noted') p)
+    subst (λ o. PutsPrefix old mid o) (λ i. record { written = (append-nil written ∙ w) i; noted = noted' }) (start_of_part old mid (only_written written) (only_noted noted') p)

@@ -9,8 +9,7 @@ use Rattle.mmt_model.specs.Sessions.{before_of, clock_of}
 use Rattle.mmt_model.proofs.Sessions.{before_first}
 use Rattle.mmt_tune.proofs.Steps.{no_session, session_grows, tuned_before, tuned_now}
 use Rattle.mmt_runs.specs.Reading.{heard}
-use Rattle.mmt_stream.specs.Output.{Output}
-use Rattle.mmt_output.specs.Putting.{only_noted}
+use Rattle.mmt_io.specs.Output.{Output, only_noted}
 use Rattle.mmt_output.specs.Records.{records}
 use Rattle.mmt_recv.specs.declared.summary.Ended.{Ended}
 use Rattle.mmt_recv.specs.declared.summary.Tuned.{Tuned}

@@ -9,11 +9,10 @@ use Rattle.mmt_hear.specs.declared.why.Why.{Why}
 use Rattle.mmt_packet.specs.Spelling.{Value as Mmtp}
 use Rattle.mmt_hear.specs.Hearing.{Hearing, hearing}
 use Rattle.mmt_hear.specs.Views.{HasHeard}
-use Rattle.mmt_stream.specs.Output.{followed, nothing}
+use Rattle.mmt_io.specs.Output.{followed, nothing, only_noted}
 use Rattle.mmt_output.specs.declared.notes.Note.TheVariants as notes
 use Rattle.mmt_output.specs.Notes.{note_text}
 use Rattle.mmt_output.specs.Records.{record_of, records}
-use Rattle.mmt_output.specs.Putting.{only_noted}
 use Rattle.mmt_tune.specs.declared.config.Config.{Config}
 use Rattle.mmt_tune.specs.Tuning.{HeardAt, Placed, heard_as, heard_at, heard_of, history, packets_of, rules_by, tuned}
 use Rattle.mmt_model.specs.Sessions.{start_of}

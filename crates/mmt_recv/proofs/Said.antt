@@ -8,7 +8,7 @@ use Rattle.mmt_model.specs.Entries.{Entry}
 use Rattle.mmt_model.specs.Units.{Message}
 use Rattle.mmt_times.specs.Known.{Known}
 use Rattle.mmt_output.specs.declared.notes.Note.TheVariants as notes
-use Rattle.mmt_output.specs.Putting.{only_noted, Puts}
+use Rattle.mmt_io.specs.Output.{only_noted, Puts}
 use Rattle.mmt_output.proofs.Putting.{puts_nothing}
 use Rattle.mmt_naming.specs.Findings.{Finding, Remark, findings_of_joined}
 use Rattle.mmt_naming.specs.Lines.{learned_by, lines_of}

@@ -38,7 +38,7 @@ use Rattle.mmt_output.specs.declared.notes.Note.TheVariants as notes
 use Rattle.mmt_output.specs.Notes.{note_text}
 use Rattle.mmt_output.specs.declared.telling.Untold.{Untold}
 use Rattle.mmt_output.specs.declared.telling.Untold.TheVariants as untold
-use Rattle.mmt_output.specs.Putting.{only_noted, Put, Puts}
+use Rattle.mmt_io.specs.Output.{only_noted, Put, Puts}
 use Rattle.mmt_output.proofs.Putting.{puts_nothing, start_nothing, start_of}
 use Rattle.mmt_recv.specs.declared.taking.Outcome.{Outcome as Answer}
 use Rattle.mmt_recv.specs.declared.taking.Outcome.TheVariants as answer

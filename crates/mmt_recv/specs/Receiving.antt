@@ -10,7 +10,7 @@ use Rattle.mmt_hear.specs.Views.{HasHeard}
 use Rattle.mmt_pool.specs.Holding.{Holding, held}
 use Rattle.mmt_times.specs.Known.{Known}
 use Rattle.mmt_runs.specs.Reading.{heard}
-use Rattle.mmt_stream.specs.Output.{Output}
+use Rattle.mmt_io.specs.Output.{Output}
 use Rattle.mmt_output.specs.declared.handed.Handed.{Handed}
 use Rattle.mmt_output.specs.Records.{amount_of, records}
 use Rattle.mmt_recv.specs.declared.summary.Summary.{Summary}
@@ -35,10 +35,14 @@ abbrev pub units_out : Config → List Heard → Option Params → List Presenta
 units_out config session None = []
 units_out config session (Some values) = out_of config values session
 
--- the units that are handed out where the stream ends (this project's rule)
+-- the units that are handed out at the end of a session
 abbrev pub units_left : Config → List Heard → Option Params → List Presentation
 units_left config session None = []
 units_left config session (Some values) = final_of config values session
+
+-- the units that are handed out where a stream ends (this project's rule)
+abbrev pub last_units : Config → List Placed → List Presentation
+last_units config ps = units_left config (session_of config ps) (values_of config ps)
 
 -- what is written and noted for a stream (this project's rule)
 unfoldable pub received : Config → List Placed → Output
@@ -46,7 +50,7 @@ received config ps = record { written = records (units_out config (session_of co
 
 -- the units that are handed out in a stream and at its end
 abbrev pub all_units : Config → List Placed → List Presentation
-all_units config ps = units_out config (session_of config ps) (values_of config ps) ++ units_left config (session_of config ps) (values_of config ps)
+all_units config ps = units_out config (session_of config ps) (values_of config ps) ++ last_units config ps
 
 -- how many packets were late, repeated and without room; each number stays at 2^64 - 1
 pub record Losses : Type 0 where

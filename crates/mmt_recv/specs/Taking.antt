@@ -7,6 +7,8 @@ use Rattle.mmt_model.specs.Entries.{Entry, learn, names_if_stored}
 use Rattle.mmt_model.specs.Units.{names_of}
 use Rattle.mmt_output.specs.declared.notes.Note.{Note}
 use Rattle.mmt_output.specs.declared.notes.Note.TheVariants as notes
+use Rattle.mmt_packet.specs.declared.packet.Packet.{Packet}
+use Rattle.mmt_packet.specs.Spelling.{view as mmtp_of}
 use Rattle.mmt_pool.specs.declared.types.NotStored.{NotStored}
 use Rattle.mmt_pool.specs.declared.types.NotStored.TheVariants as why
 use Rattle.mmt_pool.specs.Holding.{Holding, held}
@@ -18,6 +20,14 @@ use Rattle.mmt_naming.specs.Findings.{Finding, findings_by, names_in, notes_of}
 use Rattle.mmt_recv.specs.Noting.{PlacedNote, at_place, kind_notes, outcome_notes, payload_place}
 use Rattle.mmt_recv.specs.declared.taking.Outcome.{Outcome as Answer}
 use Rattle.mmt_recv.specs.declared.taking.Outcome.TheVariants as answers
+
+-- a packet at a place, as it is heard
+abbrev pub packet_at : ℕ → Packet → HeardAt
+packet_at place packet = record { place = place; packet = mmtp_of packet }
+
+-- a packet with what its payload spells
+abbrev pub heard_packet : Packet → Heard
+heard_packet packet = heard_as (mmtp_of packet)
 
 -- by what a packet is taken: the timescale of descriptors without one, the values of tuning, the receiver's bound, and its clock
 pub record Rules : Type 0 where

@@ -1,14 +1,12 @@
 //! The clock goes on: what is due is handed out, entries are forgotten, and packets leave the window.
 
-ghost use Rattle.std.specs.Prelude.{◌≡◌, ◌≤◌, map, filter, IsTrue, IsErr, IfOk, OnOk};
-ghost use Rattle.mmt_io.specs.Port.{Rose};
+ghost use Rattle.std.specs.Prelude.{◌≡◌, ◌≤◌, filter, IsTrue, IsErr, IfOk, OnOk};
+ghost use Rattle.mmt_io.specs.Port.{OnlySends, Rose};
 ghost use Rattle.mmt_model.specs.Entries.{forget as forgotten};
-ghost use Rattle.mmt_model.specs.Handing.{due_units};
-ghost use Rattle.mmt_model.specs.Units.{units_of};
-ghost use Rattle.mmt_output.specs.Putting.{only_written, Put};
+ghost use Rattle.mmt_io.specs.Output.{Writes};
+ghost use Rattle.mmt_output.specs.Due.{due_among};
 ghost use Rattle.mmt_output.specs.Records.{amount_of, records};
 ghost use Rattle.mmt_pool.specs.Holding.{held, is_in_window};
-ghost use Rattle.mmt_runs.specs.Reading.{heard};
 ghost use Rattle.mmt_runs.specs.Told.{IsTold};
 
 use crate::keeping::expire;
@@ -30,13 +28,11 @@ fn hand_out_due<P: Port>(
     to: Tick,
 ) -> Result<Handed, Fault>
     requires { IsTold runs.now pool.now.kept names.now }
-    ensures tells { P.tells port.new ≡ P.tells port.old }
-    ensures reads { P.read_faults port.new ≡ P.read_faults port.old }
-    ensures writes { P.write_faults port.old ≤ P.write_faults port.new }
+    ensures sends { OnlySends P.tells P.left P.read_faults P.write_faults port.old port.new }
     ensures cause { IsErr result → Rose (P.write_faults port.old) (P.write_faults port.new) }
-    ensures left { IsTrue (P.tells port.old) → P.left port.new ≡ P.left port.old }
-    ensures put { IsTrue (P.tells port.old) → Put (P.history port.old) (P.history port.new) (only_written (records (due_units names.now.sample_base names.now.entries (units_of (map heard pool.now.kept)) from.0 to.0))) result }
-    ensures counts { IfOk result (λ handed. handed ≡ amount_of (due_units names.now.sample_base names.now.entries (units_of (map heard pool.now.kept)) from.0 to.0)) }
+    ensures put { Writes P.tells P.history port.old port.new
+        (records (due_among names.now pool.now.kept from.0 to.0)) result }
+    ensures counts { IfOk result (λ handed. handed ≡ amount_of (due_among names.now pool.now.kept from.0 to.0)) }
 {
     if names.is_any_due(from, to) {
         hand_out(port, pool, names, runs, from, to)
@@ -58,15 +54,14 @@ pub(crate) fn advance_to<P: Port>(
     window: u32,
 ) -> Result<Handed, Fault>
     requires { IsTold runs.old pool.old.kept names.old }
-    ensures tells { P.tells port.new ≡ P.tells port.old }
-    ensures reads { P.read_faults port.new ≡ P.read_faults port.old }
-    ensures writes { P.write_faults port.old ≤ P.write_faults port.new }
+    ensures sends { OnlySends P.tells P.left P.read_faults P.write_faults port.old port.new }
     ensures cause { IsErr result → Rose (P.write_faults port.old) (P.write_faults port.new) }
-    ensures left { IsTrue (P.tells port.old) → P.left port.new ≡ P.left port.old }
-    ensures put { IsTrue (P.tells port.old) → Put (P.history port.old) (P.history port.new) (only_written (records (due_units names.old.sample_base names.old.entries (units_of (map heard pool.old.kept)) from.0 to.0))) result }
-    ensures counts { IfOk result (λ handed. handed ≡ amount_of (due_units names.old.sample_base names.old.entries (units_of (map heard pool.old.kept)) from.0 to.0)) }
+    ensures put { Writes P.tells P.history port.old port.new
+        (records (due_among names.old pool.old.kept from.0 to.0)) result }
+    ensures counts { IfOk result (λ handed. handed ≡ amount_of (due_among names.old pool.old.kept from.0 to.0)) }
     ensures told { OnOk result (IsTold runs.new pool.new.kept names.new) }
-    ensures names { OnOk result (names.new ≡ record { entries = forgotten from.0 to.0 names.old.entries; sample_base = names.old.sample_base }) }
+    ensures names { OnOk result
+        (names.new ≡ record { entries = forgotten from.0 to.0 names.old.entries; sample_base = names.old.sample_base }) }
     ensures kept { OnOk result (pool.new.kept ≡ filter (is_in_window to.0 window) pool.old.kept) }
     ensures bound { OnOk result (pool.new.bound ≡ pool.old.bound) }
     ensures peak { OnOk result (pool.new.peak ≡ pool.old.peak) }

@@ -1,7 +1,7 @@
 //! The receiver.
 
 ghost use Rattle.std.specs.Prelude.{◌≡◌, ◌<◌, ◌≤◌, ◌^◌, ◌+◌, length, IsTrue, IsErrOf, IfOk};
-ghost use Rattle.mmt_io.specs.Port.{Rose};
+ghost use Rattle.mmt_io.specs.Port.{OnlySends, Rose};
 ghost use Rattle.mmt_packet.specs.Spelling.{view as mmtp_of, Fits as MmtpFits};
 ghost use Rattle.mmt_recv.specs.Receiving.{IsBounded, Losses, with_outcome};
 
@@ -45,15 +45,26 @@ impl Model for Receiver {
 
     ghost Value = { State };
 
-    ghost view = { λ r. record { config = r.config; headers = r.hearer; tuned = r.tuned; pool = r.pool; names = r.names; handed = record { units = r.counts.units; bytes = r.counts.bytes }; losses = record { late = r.counts.late; repeat = r.counts.repeat; full = r.counts.full } } };
+    ghost view = { λ r. record {
+      config = r.config;
+      headers = r.hearer;
+      tuned = r.tuned;
+      pool = r.pool;
+      names = r.names;
+      handed = record { units = r.counts.units; bytes = r.counts.bytes };
+      losses = record { late = r.counts.late; repeat = r.counts.repeat; full = r.counts.full };
+    } };
 
-    ghost invariant = { λ r. IsTold r.runs r.pool.kept r.names × (1 ≤ r.config.timescale) × (r.pool.bound ≡ r.config.bound) × (held r.pool.kept ≤ r.config.bound) × (length r.names.entries ≤ 1024) };
+    ghost invariant = { λ r. IsTold r.runs r.pool.kept r.names × (1 ≤ r.config.timescale) × (r.pool.bound ≡ r.config.bound)
+        × (held r.pool.kept ≤ r.config.bound) × (length r.names.entries ≤ 1024) };
 }
 
 // The counts once more was handed out and a packet had its outcome.
 fn count(counts: Summary, handed: Handed, outcome: Outcome) -> Summary
-    ensures handed { (record { units = result.units; bytes = result.bytes } ≡ handed_more (record { units = counts.units; bytes = counts.bytes }) handed) }
-    ensures losses { (record { late = result.late; repeat = result.repeat; full = result.full } ≡ with_outcome (answered outcome) (record { late = counts.late; repeat = counts.repeat; full = counts.full })) }
+    ensures handed { (record { units = result.units; bytes = result.bytes } ≡
+        handed_more (record { units = counts.units; bytes = counts.bytes }) handed) }
+    ensures losses { (record { late = result.late; repeat = result.repeat; full = result.full } ≡
+        with_outcome (answered outcome) (record { late = counts.late; repeat = counts.repeat; full = counts.full })) }
 {
     let counts = Summary {
         units: counts.units.saturating_add(handed.units),
@@ -79,7 +90,7 @@ fn count(counts: Summary, handed: Handed, outcome: Outcome) -> Summary
 }
 
 ghost use Rattle.mmt_recv.specs.Receiving.{handed_more};
-ghost use Rattle.mmt_recv.specs.Taking.{answered};
+ghost use Rattle.mmt_recv.specs.Taking.{answered, heard_packet, packet_at};
 
 // Why a receiver ends where a note was not told.
 fn ended(untold: Untold) -> Ended
@@ -94,9 +105,8 @@ fn ended(untold: Untold) -> Ended
 ghost use Rattle.std.specs.Prelude.{Some, None, List, ◌∷◌};
 ghost use Rattle.mmt_model.specs.declared.programmes.Params.{Params as Values};
 ghost use Rattle.mmt_model.specs.Packets.{Heard as HeardPacket};
-ghost use Rattle.mmt_output.specs.Putting.{Put};
+ghost use Rattle.mmt_io.specs.Output.{Put};
 ghost use Rattle.mmt_output.specs.Records.{records};
-ghost use Rattle.mmt_tune.specs.Tuning.{heard_as};
 ghost use Rattle.mmt_model.specs.Sessions.{before_of, clock_of};
 ghost use Rattle.mmt_recv.specs.Noting.{lines_of, tuned_notes};
 ghost use Rattle.mmt_recv.specs.Session.{handed_of};
@@ -117,20 +127,23 @@ impl Receiver {
         requires short { length packet.now.payload.now < 2 ^ 16 }
         ensures config { IfOk result (λ next. next.config ≡ self.config) }
         ensures headers { IfOk result (λ next. next.headers ≡ self.headers) }
-        ensures tuned { (session : List HeardPacket) → tuned.clock.0 ≡ before_of (heard_as (mmtp_of packet.now)) session →
-            IfOk result (λ next. next.tuned ≡ Some (record { params = tuned.params; clock = record { 0 = clock_of (heard_as (mmtp_of packet.now) ∷ session) } })) }
-        ensures holds { (session : List HeardPacket) → Holds self session tuned.params → tuned.clock.0 ≡ before_of (heard_as (mmtp_of packet.now)) session →
-            IfOk result (λ next. Holds next (heard_as (mmtp_of packet.now) ∷ session) tuned.params) }
+        ensures tuned { (session : List HeardPacket) →
+            tuned.clock.0 ≡ before_of (heard_packet packet.now) session →
+            IfOk result (λ next. next.tuned ≡ Some (record {
+              params = tuned.params;
+              clock = record { 0 = clock_of (heard_packet packet.now ∷ session) };
+            })) }
+        ensures holds { (session : List HeardPacket) → Holds self session tuned.params →
+            tuned.clock.0 ≡ before_of (heard_packet packet.now) session →
+            IfOk result (λ next. Holds next (heard_packet packet.now ∷ session) tuned.params) }
         ensures bounded { IfOk result IsBounded }
-        ensures tells { P.tells port.new ≡ P.tells port.old }
-        ensures reads { P.read_faults port.new ≡ P.read_faults port.old }
-        ensures writes { P.write_faults port.old ≤ P.write_faults port.new }
+        ensures sends { OnlySends P.tells P.left P.read_faults P.write_faults port.old port.new }
         ensures cause { IsErrOf result Ended.WriteFault → Rose (P.write_faults port.old) (P.write_faults port.new) }
-        ensures left { IsTrue (P.tells port.old) → P.left port.new ≡ P.left port.old }
-        ensures put { IsTrue (P.tells port.old) → (session : List HeardPacket) → Holds self session tuned.params → tuned.clock.0 ≡ before_of (heard_as (mmtp_of packet.now)) session →
+        ensures put { IsTrue (P.tells port.old) → (session : List HeardPacket) →
+            Holds self session tuned.params → tuned.clock.0 ≡ before_of (heard_packet packet.now) session →
             Put (P.history port.old) (P.history port.new) (record {
-              written = records (handed_of self.config tuned.params (heard_as (mmtp_of packet.now)) session);
-              noted = lines_of (tuned_notes self.config tuned.params session (record { place = place; packet = mmtp_of packet.now }));
+              written = records (handed_of self.config tuned.params (heard_packet packet.now) session);
+              noted = lines_of (tuned_notes self.config tuned.params session (packet_at place packet.now));
             }) result }
     {
         let clock = advance(tuned.clock, packet.time);
@@ -186,15 +199,13 @@ impl Receiver {
         requires short { length packet.now.payload.now < 2 ^ 16 }
         ensures config { IfOk result (λ next. next.config ≡ self.config) }
         ensures headers { IfOk result (λ next. next.headers ≡ self.headers) }
-        ensures over { (hs : List HeardAt) → IsOver self hs → IfOk result (λ next. IsOver next (record { place = place; packet = mmtp_of packet.now } ∷ hs)) }
+        ensures over { (hs : List HeardAt) → IsOver self hs →
+            IfOk result (λ next. IsOver next (packet_at place packet.now ∷ hs)) }
         ensures bounded { IfOk result IsBounded }
-        ensures tells { P.tells port.new ≡ P.tells port.old }
-        ensures reads { P.read_faults port.new ≡ P.read_faults port.old }
-        ensures writes { P.write_faults port.old ≤ P.write_faults port.new }
+        ensures sends { OnlySends P.tells P.left P.read_faults P.write_faults port.old port.new }
         ensures cause { IsErrOf result Ended.WriteFault → Rose (P.write_faults port.old) (P.write_faults port.new) }
-        ensures left { IsTrue (P.tells port.old) → P.left port.new ≡ P.left port.old }
         ensures put { IsTrue (P.tells port.old) → (hs : List HeardAt) → IsOver self hs →
-            Put (P.history port.old) (P.history port.new) (heard_more self.config hs (record { place = place; packet = mmtp_of packet.now })) result }
+            Put (P.history port.old) (P.history port.new) (heard_more self.config hs (packet_at place packet.now)) result }
     {
         match tuning_values(&self.config, packet) {
             Some(params) => {
@@ -223,15 +234,13 @@ impl Receiver {
         requires short { length packet.now.payload.now < 2 ^ 16 }
         ensures config { IfOk result (λ next. next.config ≡ self.config) }
         ensures headers { IfOk result (λ next. next.headers ≡ self.headers) }
-        ensures over { (hs : List HeardAt) → IsOver self hs → IfOk result (λ next. IsOver next (record { place = place; packet = mmtp_of packet.now } ∷ hs)) }
+        ensures over { (hs : List HeardAt) → IsOver self hs →
+            IfOk result (λ next. IsOver next (packet_at place packet.now ∷ hs)) }
         ensures bounded { IfOk result IsBounded }
-        ensures tells { P.tells port.new ≡ P.tells port.old }
-        ensures reads { P.read_faults port.new ≡ P.read_faults port.old }
-        ensures writes { P.write_faults port.old ≤ P.write_faults port.new }
+        ensures sends { OnlySends P.tells P.left P.read_faults P.write_faults port.old port.new }
         ensures cause { IsErrOf result Ended.WriteFault → Rose (P.write_faults port.old) (P.write_faults port.new) }
-        ensures left { IsTrue (P.tells port.old) → P.left port.new ≡ P.left port.old }
         ensures put { IsTrue (P.tells port.old) → (hs : List HeardAt) → IsOver self hs →
-            Put (P.history port.old) (P.history port.new) (heard_more self.config hs (record { place = place; packet = mmtp_of packet.now })) result }
+            Put (P.history port.old) (P.history port.new) (heard_more self.config hs (packet_at place packet.now)) result }
     {
         match self.tuned {
             Some(tuned) => self.take_heard(port, place, packet, tuned),
@@ -246,11 +255,11 @@ ghost use Rattle.std.specs.Prelude.{[], IsErr, ◌-◌};
 ghost use Rattle.mmt_tlv.specs.Framing.{Packet as Tlv, Fits, spelling};
 ghost use Rattle.mmt_tlv.specs.Cutting.{IsPacket};
 ghost use Rattle.mmt_tune.specs.Tuning.{Placed};
-ghost use Rattle.mmt_output.specs.Putting.{only_written};
+ghost use Rattle.mmt_io.specs.Output.{only_written};
 ghost use Rattle.mmt_pool.specs.Holding.{held as held_bytes};
 ghost use Rattle.mmt_recv.specs.Noting.{notes_of_packet};
 ghost use Rattle.mmt_recv.specs.Places.{LieBetween};
-ghost use Rattle.mmt_recv.specs.Receiving.{Stands, more, session_of, values_of, units_left, summary_of};
+ghost use Rattle.mmt_recv.specs.Receiving.{Stands, more, last_units, summary_of};
 
 use crate::summary::Failed;
 use crate::untuned::note_untuned;
@@ -314,13 +323,11 @@ impl Receiver {
         // Each note lies at the packet's first byte or behind it, and at most directly behind its last.
         ensures places { (ps : List Placed) (packet : Tlv) → Stands self ps → Fits packet → tlv.now ≡ spelling packet →
             LieBetween place (place + length tlv.now) (notes_of_packet self.config ps (record { place = place; packet = packet })) }
-        ensures tells { P.tells port.new ≡ P.tells port.old }
-        ensures reads { P.read_faults port.new ≡ P.read_faults port.old }
-        ensures writes { P.write_faults port.old ≤ P.write_faults port.new }
+        ensures sends { OnlySends P.tells P.left P.read_faults P.write_faults port.old port.new }
         ensures cause { IsErrOf result Ended.WriteFault → Rose (P.write_faults port.old) (P.write_faults port.new) }
-        ensures left { IsTrue (P.tells port.old) → P.left port.new ≡ P.left port.old }
         // What goes out is exactly what belongs to the packet, or a start of it.
-        ensures put { IsTrue (P.tells port.old) → (ps : List Placed) (packet : Tlv) → Stands self ps → Fits packet → tlv.now ≡ spelling packet →
+        ensures put { IsTrue (P.tells port.old) → (ps : List Placed) (packet : Tlv) → Stands self ps →
+            Fits packet → tlv.now ≡ spelling packet →
             Put (P.history port.old) (P.history port.new) (more self.config ps (record { place = place; packet = packet })) result }
     {
         match self.hearer.hear(&self.config.flow, tlv) {
@@ -360,15 +367,12 @@ fn last_after(clock: Tick) -> Tick
 impl Receiver {
     // Hands out what is still to be due.
     fn hand_out_rest<P: Port>(&self, port: &mut P) -> Result<Handed, Failed>
-        ensures tells { P.tells port.new ≡ P.tells port.old }
-        ensures reads { P.read_faults port.new ≡ P.read_faults port.old }
-        ensures writes { P.write_faults port.old ≤ P.write_faults port.new }
+        ensures sends { OnlySends P.tells P.left P.read_faults P.write_faults port.old port.new }
         ensures cause { IsErr result → Rose (P.write_faults port.old) (P.write_faults port.new) }
-        ensures left { IsTrue (P.tells port.old) → P.left port.new ≡ P.left port.old }
         ensures put { IsTrue (P.tells port.old) → (ps : List Placed) → Stands self.now ps →
-            Put (P.history port.old) (P.history port.new) (only_written (records (units_left self.now.config (session_of self.now.config ps) (values_of self.now.config ps)))) result }
+            Put (P.history port.old) (P.history port.new) (only_written (records (last_units self.now.config ps))) result }
         ensures counts { (ps : List Placed) → Stands self.now ps →
-            IfOk result (λ handed. handed ≡ amount_of (units_left self.now.config (session_of self.now.config ps) (values_of self.now.config ps))) }
+            IfOk result (λ handed. handed ≡ amount_of (last_units self.now.config ps)) }
     {
         match self.tuned {
             None => Ok(Handed::nothing()),
@@ -389,13 +393,10 @@ impl Receiver {
     ///
     /// The port failed, and wrote a start of the records.
     pub fn finish<P: Port>(self, port: &mut P) -> Result<Summary, Failed>
-        ensures tells { P.tells port.new ≡ P.tells port.old }
-        ensures reads { P.read_faults port.new ≡ P.read_faults port.old }
-        ensures writes { P.write_faults port.old ≤ P.write_faults port.new }
+        ensures sends { OnlySends P.tells P.left P.read_faults P.write_faults port.old port.new }
         ensures cause { IsErr result → Rose (P.write_faults port.old) (P.write_faults port.new) }
-        ensures left { IsTrue (P.tells port.old) → P.left port.new ≡ P.left port.old }
         ensures put { IsTrue (P.tells port.old) → (ps : List Placed) → Stands self ps →
-            Put (P.history port.old) (P.history port.new) (only_written (records (units_left self.config (session_of self.config ps) (values_of self.config ps)))) result }
+            Put (P.history port.old) (P.history port.new) (only_written (records (last_units self.config ps))) result }
         ensures summary { (ps : List Placed) → Stands self ps → IfOk result (λ s. s ≡ summary_of self.config ps) }
     {
         let handed = match self.hand_out_rest(port) {

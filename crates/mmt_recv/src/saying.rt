@@ -1,16 +1,16 @@
 //! What the messages of a stored signalling packet say.
 
 ghost use Rattle.std.specs.Prelude.{◌≡◌, ◌<◌, ◌≤◌, ◌^◌, ◌+◌, [], ◌∷◌, length, map, IsTrue, IsErrOf, OnOk, Ok};
-ghost use Rattle.mmt_io.specs.Port.{Rose};
+ghost use Rattle.mmt_io.specs.Port.{OnlySends, Rose};
 ghost use Rattle.mmt_model.specs.Packets.{Payload};
-ghost use Rattle.mmt_output.specs.Putting.{only_noted, Put};
+ghost use Rattle.mmt_io.specs.Output.{Notes};
 ghost use Rattle.mmt_runs.specs.Messages.{message_of};
 ghost use Rattle.mmt_runs.specs.Reading.{heard};
 ghost use Rattle.mmt_runs.specs.Told.{IsTold};
 ghost use Rattle.mmt_sig.specs.View.{view as signals};
 ghost use Rattle.mmt_naming.specs.Findings.{findings_of_joined};
-ghost use Rattle.mmt_naming.specs.Lines.{learned_by, lines_of};
-ghost use Rattle.mmt_recv.specs.Saying.{findings_of_signals};
+ghost use Rattle.mmt_naming.specs.Lines.{Learns, lines_by};
+ghost use Rattle.mmt_recv.specs.Saying.{findings_of_signals, findings_with};
 
 use crate::joining::join;
 use mmt_io::Port;
@@ -36,14 +36,13 @@ fn take_joined<P: Port>(
     parts: MessageParts<'_>,
 ) -> Result<(), Untold>
     requires told { IsTold runs.old pool.now.kept names.old }
-    ensures tells { P.tells port.new ≡ P.tells port.old }
-    ensures reads { P.read_faults port.new ≡ P.read_faults port.old }
-    ensures writes { P.write_faults port.old ≤ P.write_faults port.new }
+    ensures sends { OnlySends P.tells P.left P.read_faults P.write_faults port.old port.new }
     ensures cause { IsErrOf result Untold.WriteFault → Rose (P.write_faults port.old) (P.write_faults port.new) }
-    ensures left { IsTrue (P.tells port.old) → P.left port.new ≡ P.left port.old }
     ensures told { OnOk result (IsTold runs.new pool.now.kept names.new) }
-    ensures names { OnOk result (names.new ≡ learned_by by.now.clock.0 names.old (findings_of_joined by.now.timescale by.now.tuned (message_of parts.entry))) }
-    ensures put { IsTrue (P.tells port.old) → Put (P.history port.old) (P.history port.new) (only_noted (lines_of by.now.place by.now.clock.0 names.old.entries (findings_of_joined by.now.timescale by.now.tuned (message_of parts.entry)))) result }
+    ensures names { Learns by.now (findings_of_joined by.now.timescale by.now.tuned (message_of parts.entry))
+        names.old names.new result }
+    ensures put { Notes P.tells P.history port.old port.new
+        (lines_by by.now names.old (findings_of_joined by.now.timescale by.now.tuned (message_of parts.entry))) result }
 {
     let length = parts.length();
     if length > LONGEST {
@@ -56,9 +55,6 @@ fn take_joined<P: Port>(
     }
 }
 
-ghost use Rattle.std.specs.List.{flat_map};
-ghost use Rattle.mmt_runs.specs.Messages.{messages_with};
-
 // Takes what the message says that the packet of this span makes whole, where there is one.
 fn take_part<P: Port>(
     port: &mut P,
@@ -70,14 +66,13 @@ fn take_part<P: Port>(
     span: Span,
 ) -> Result<(), Untold>
     requires told { IsTold runs.old pool.now.kept names.old }
-    ensures tells { P.tells port.new ≡ P.tells port.old }
-    ensures reads { P.read_faults port.new ≡ P.read_faults port.old }
-    ensures writes { P.write_faults port.old ≤ P.write_faults port.new }
+    ensures sends { OnlySends P.tells P.left P.read_faults P.write_faults port.old port.new }
     ensures cause { IsErrOf result Untold.WriteFault → Rose (P.write_faults port.old) (P.write_faults port.new) }
-    ensures left { IsTrue (P.tells port.old) → P.left port.new ≡ P.left port.old }
     ensures told { OnOk result (IsTold runs.new pool.now.kept names.new) }
-    ensures names { OnOk result (names.new ≡ learned_by by.now.clock.0 names.old (flat_map (findings_of_joined by.now.timescale by.now.tuned) (messages_with (map heard pool.now.kept) span.packet_id span.number))) }
-    ensures put { IsTrue (P.tells port.old) → Put (P.history port.old) (P.history port.new) (only_noted (lines_of by.now.place by.now.clock.0 names.old.entries (flat_map (findings_of_joined by.now.timescale by.now.tuned) (messages_with (map heard pool.now.kept) span.packet_id span.number)))) result }
+    ensures names { Learns by.now (findings_with by.now.timescale by.now.tuned (map heard pool.now.kept) span)
+        names.old names.new result }
+    ensures put { Notes P.tells P.history port.old port.new
+        (lines_by by.now names.old (findings_with by.now.timescale by.now.tuned (map heard pool.now.kept) span)) result }
 {
     match runs.whole_message(pool, span) {
         Some(parts) => take_joined(port, pool, names, runs, message, by, parts),
@@ -99,14 +94,16 @@ pub(crate) fn take_signals_of<P: Port>(
 ) -> Result<(), Untold>
     requires told { IsTold runs.old pool.now.kept names.old }
     requires few { length (signals found.now).messages < 2 ^ 32 }
-    ensures tells { P.tells port.new ≡ P.tells port.old }
-    ensures reads { P.read_faults port.new ≡ P.read_faults port.old }
-    ensures writes { P.write_faults port.old ≤ P.write_faults port.new }
+    ensures sends { OnlySends P.tells P.left P.read_faults P.write_faults port.old port.new }
     ensures cause { IsErrOf result Untold.WriteFault → Rose (P.write_faults port.old) (P.write_faults port.new) }
-    ensures left { IsTrue (P.tells port.old) → P.left port.new ≡ P.left port.old }
     ensures told { OnOk result (IsTold runs.new pool.now.kept names.new) }
-    ensures names { OnOk result (names.new ≡ learned_by by.now.clock.0 names.old (findings_of_signals by.now.timescale by.now.tuned (map heard pool.now.kept) span.packet_id span.number (signals found.now))) }
-    ensures put { IsTrue (P.tells port.old) → Put (P.history port.old) (P.history port.new) (only_noted (lines_of by.now.place by.now.clock.0 names.old.entries (findings_of_signals by.now.timescale by.now.tuned (map heard pool.now.kept) span.packet_id span.number (signals found.now)))) result }
+    ensures names { Learns by.now
+        (findings_of_signals by.now.timescale by.now.tuned (map heard pool.now.kept)
+        span.packet_id span.number (signals found.now))
+        names.old names.new result }
+    ensures put { Notes P.tells P.history port.old port.new
+        (lines_by by.now names.old (findings_of_signals by.now.timescale by.now.tuned (map heard pool.now.kept)
+        span.packet_id span.number (signals found.now))) result }
 {
     match found.head().part {
         Part::Whole => take_messages(port, pool, names, runs, by, found.messages()),

@@ -2,8 +2,8 @@
 //! packets that are out of the window were let go.
 
 ghost use Rattle.std.specs.Prelude.{◌≡◌, ◌<◌, ◌≤◌, ◌^◌, ◌+◌, length, map, IsTrue, IsErrOf, IfOk, OnOk};
-ghost use Rattle.mmt_io.specs.Port.{Rose};
-ghost use Rattle.mmt_output.specs.Putting.{only_noted, Put};
+ghost use Rattle.mmt_io.specs.Port.{OnlySends, Rose};
+ghost use Rattle.mmt_io.specs.Output.{Notes};
 ghost use Rattle.mmt_recv.specs.Noting.{at_place, lines_of};
 ghost use Rattle.mmt_recv.specs.Taking.{answered, reason_note, reason_outcome};
 
@@ -33,12 +33,10 @@ pub(crate) fn leave_out<P: Port>(
     by: &By,
     reason: NotStored,
 ) -> Result<Outcome, Untold>
-    ensures tells { P.tells port.new ≡ P.tells port.old }
-    ensures reads { P.read_faults port.new ≡ P.read_faults port.old }
-    ensures writes { P.write_faults port.old ≤ P.write_faults port.new }
+    ensures sends { OnlySends P.tells P.left P.read_faults P.write_faults port.old port.new }
     ensures cause { IsErrOf result Untold.WriteFault → Rose (P.write_faults port.old) (P.write_faults port.new) }
-    ensures left { IsTrue (P.tells port.old) → P.left port.new ≡ P.left port.old }
-    ensures put { IsTrue (P.tells port.old) → Put (P.history port.old) (P.history port.new) (only_noted (lines_of (at_place by.now.place (reason_note reason)))) result }
+    ensures put { Notes P.tells P.history port.old port.new
+        (lines_of (at_place by.now.place (reason_note reason))) result }
     ensures outcome { IfOk result (λ o. answered o ≡ reason_outcome reason) }
     ensures memory { reason ≡ NotStored.OutOfMemory → IsErrOf result Untold.OutOfMemory }
 {
@@ -61,7 +59,7 @@ ghost use Rattle.mmt_pool.specs.Holding.{held};
 ghost use Rattle.mmt_runs.specs.Reading.{heard};
 ghost use Rattle.mmt_runs.specs.Told.{IsTold};
 ghost use Rattle.mmt_recv.specs.Noting.{payload_place};
-ghost use Rattle.mmt_recv.specs.Taking.{Takes, rules_at, outcome_by, notes_taken};
+ghost use Rattle.mmt_recv.specs.Taking.{Takes, packet_at, rules_at, outcome_by, notes_taken};
 
 use crate::keeping::keep;
 use mmt_base::Refused;
@@ -84,18 +82,18 @@ fn take_media<P: Port>(
     requires kind { packet.now.kind ≡ Kind.Mpu }
     requires told { IsTold runs.old pool.old.kept names.now }
     requires within { held pool.old.kept ≤ pool.old.peak }
-    requires place { at ≡ payload_place (record { place = by.now.place; packet = mmtp_of packet.now }) }
+    requires place { at ≡ payload_place (packet_at by.now.place packet.now) }
     requires small { at < 2 ^ 63 + 2 ^ 18 }
     requires short { length packet.now.payload.now < 2 ^ 16 }
-    ensures tells { P.tells port.new ≡ P.tells port.old }
-    ensures reads { P.read_faults port.new ≡ P.read_faults port.old }
-    ensures writes { P.write_faults port.old ≤ P.write_faults port.new }
+    ensures sends { OnlySends P.tells P.left P.read_faults P.write_faults port.old port.new }
     ensures cause { IsErrOf result Untold.WriteFault → Rose (P.write_faults port.old) (P.write_faults port.new) }
-    ensures left { IsTrue (P.tells port.old) → P.left port.new ≡ P.left port.old }
     ensures told { OnOk result (IsTold runs.new pool.new.kept names.now) }
-    ensures takes { OnOk result (Takes (rules_at by.now pool.old.bound) pool.old names.now (record { place = by.now.place; packet = mmtp_of packet.now }) pool.new names.now) }
-    ensures outcome { IfOk result (λ o. answered o ≡ outcome_by (rules_at by.now pool.old.bound) (map heard pool.old.kept) (record { place = by.now.place; packet = mmtp_of packet.now })) }
-    ensures put { IsTrue (P.tells port.old) → Put (P.history port.old) (P.history port.new) (only_noted (lines_of (notes_taken (rules_at by.now pool.old.bound) (map heard pool.old.kept) names.now.entries (record { place = by.now.place; packet = mmtp_of packet.now })))) result }
+    ensures takes { OnOk result
+        (Takes (rules_at by.now pool.old.bound) pool.old names.now (packet_at by.now.place packet.now) pool.new names.now) }
+    ensures outcome { IfOk result (λ o. answered o ≡
+        outcome_by (rules_at by.now pool.old.bound) (map heard pool.old.kept) (packet_at by.now.place packet.now)) }
+    ensures put { Notes P.tells P.history port.old port.new (lines_of (notes_taken
+        (rules_at by.now pool.old.bound) (map heard pool.old.kept) names.now.entries (packet_at by.now.place packet.now))) result }
 {
     match read_mpu(packet.payload) {
         Ok(_) => match keep(pool, runs, names, by.clock, by.tuned.delay, packet) {
@@ -129,18 +127,18 @@ fn take_signals<P: Port>(
     requires id { packet.now.packet_id ≡ 0 }
     requires told { IsTold runs.old pool.old.kept names.old }
     requires within { held pool.old.kept ≤ pool.old.peak }
-    requires place { at ≡ payload_place (record { place = by.now.place; packet = mmtp_of packet.now }) }
+    requires place { at ≡ payload_place (packet_at by.now.place packet.now) }
     requires small { at < 2 ^ 63 + 2 ^ 18 }
     requires short { length packet.now.payload.now < 2 ^ 16 }
-    ensures tells { P.tells port.new ≡ P.tells port.old }
-    ensures reads { P.read_faults port.new ≡ P.read_faults port.old }
-    ensures writes { P.write_faults port.old ≤ P.write_faults port.new }
+    ensures sends { OnlySends P.tells P.left P.read_faults P.write_faults port.old port.new }
     ensures cause { IsErrOf result Untold.WriteFault → Rose (P.write_faults port.old) (P.write_faults port.new) }
-    ensures left { IsTrue (P.tells port.old) → P.left port.new ≡ P.left port.old }
     ensures told { OnOk result (IsTold runs.new pool.new.kept names.new) }
-    ensures takes { OnOk result (Takes (rules_at by.now pool.old.bound) pool.old names.old (record { place = by.now.place; packet = mmtp_of packet.now }) pool.new names.new) }
-    ensures outcome { IfOk result (λ o. answered o ≡ outcome_by (rules_at by.now pool.old.bound) (map heard pool.old.kept) (record { place = by.now.place; packet = mmtp_of packet.now })) }
-    ensures put { IsTrue (P.tells port.old) → Put (P.history port.old) (P.history port.new) (only_noted (lines_of (notes_taken (rules_at by.now pool.old.bound) (map heard pool.old.kept) names.old.entries (record { place = by.now.place; packet = mmtp_of packet.now })))) result }
+    ensures takes { OnOk result
+        (Takes (rules_at by.now pool.old.bound) pool.old names.old (packet_at by.now.place packet.now) pool.new names.new) }
+    ensures outcome { IfOk result (λ o. answered o ≡
+        outcome_by (rules_at by.now pool.old.bound) (map heard pool.old.kept) (packet_at by.now.place packet.now)) }
+    ensures put { Notes P.tells P.history port.old port.new (lines_of (notes_taken
+        (rules_at by.now pool.old.bound) (map heard pool.old.kept) names.old.entries (packet_at by.now.place packet.now))) result }
 {
     let found = match read_sig(packet.payload) {
         Ok(found) => found,
@@ -183,15 +181,15 @@ pub(crate) fn take_packet<P: Port>(
     requires fits { MmtpFits (mmtp_of packet.now) }
     requires place { by.now.place < 2 ^ 63 + 2 ^ 17 }
     requires short { length packet.now.payload.now < 2 ^ 16 }
-    ensures tells { P.tells port.new ≡ P.tells port.old }
-    ensures reads { P.read_faults port.new ≡ P.read_faults port.old }
-    ensures writes { P.write_faults port.old ≤ P.write_faults port.new }
+    ensures sends { OnlySends P.tells P.left P.read_faults P.write_faults port.old port.new }
     ensures cause { IsErrOf result Untold.WriteFault → Rose (P.write_faults port.old) (P.write_faults port.new) }
-    ensures left { IsTrue (P.tells port.old) → P.left port.new ≡ P.left port.old }
     ensures told { OnOk result (IsTold runs.new pool.new.kept names.new) }
-    ensures takes { OnOk result (Takes (rules_at by.now pool.old.bound) pool.old names.old (record { place = by.now.place; packet = mmtp_of packet.now }) pool.new names.new) }
-    ensures outcome { IfOk result (λ o. answered o ≡ outcome_by (rules_at by.now pool.old.bound) (map heard pool.old.kept) (record { place = by.now.place; packet = mmtp_of packet.now })) }
-    ensures put { IsTrue (P.tells port.old) → Put (P.history port.old) (P.history port.new) (only_noted (lines_of (notes_taken (rules_at by.now pool.old.bound) (map heard pool.old.kept) names.old.entries (record { place = by.now.place; packet = mmtp_of packet.now })))) result }
+    ensures takes { OnOk result
+        (Takes (rules_at by.now pool.old.bound) pool.old names.old (packet_at by.now.place packet.now) pool.new names.new) }
+    ensures outcome { IfOk result (λ o. answered o ≡
+        outcome_by (rules_at by.now pool.old.bound) (map heard pool.old.kept) (packet_at by.now.place packet.now)) }
+    ensures put { Notes P.tells P.history port.old port.new (lines_of (notes_taken
+        (rules_at by.now pool.old.bound) (map heard pool.old.kept) names.old.entries (packet_at by.now.place packet.now))) result }
 {
     let at = by.place + header_length(packet) as u64;
     match packet.kind {
@@ -211,13 +209,10 @@ ghost use Rattle.mmt_output.specs.Notes.{note_text};
 
 // Notes a packet that is not opened.
 fn pass_by<P: Port>(port: &mut P, by: &By, note: &Note) -> Result<Outcome, Untold>
-    ensures tells { P.tells port.new ≡ P.tells port.old }
-    ensures reads { P.read_faults port.new ≡ P.read_faults port.old }
-    ensures writes { P.write_faults port.old ≤ P.write_faults port.new }
+    ensures sends { OnlySends P.tells P.left P.read_faults P.write_faults port.old port.new }
     ensures cause { IsErrOf result Untold.WriteFault → Rose (P.write_faults port.old) (P.write_faults port.new) }
-    ensures left { IsTrue (P.tells port.old) → P.left port.new ≡ P.left port.old }
     ensures outcome { IfOk result (λ o. o ≡ Outcome.Unopened) }
-    ensures put { IsTrue (P.tells port.old) → Put (P.history port.old) (P.history port.new) (only_noted (note_text by.now.place note.now)) result }
+    ensures put { Notes P.tells P.history port.old port.new (note_text by.now.place note.now) result }
 {
     match tell(by.alloc, port, by.place, note) {
         Ok(()) => Ok(Outcome::Unopened),

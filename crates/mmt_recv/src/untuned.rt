@@ -2,13 +2,15 @@
 
 ghost use Rattle.std.specs.Prelude.{◌≡◌, ◌<◌, ◌≤◌, ◌^◌, ◌+◌, length, IsTrue, IsErrOf, Ok, Err};
 ghost use Rattle.std.specs.List.{All};
-ghost use Rattle.mmt_io.specs.Port.{Rose};
+ghost use Rattle.mmt_io.specs.Port.{OnlySends, Rose};
 ghost use Rattle.mmt_packet.specs.Spelling.{view as mmtp_of, Fits as MmtpFits};
 ghost use Rattle.mmt_sig.specs.MessageReading.{message_of};
 ghost use Rattle.mmt_sig.specs.PayloadReading.{payload_of as signals_of};
 ghost use Rattle.mmt_sig.specs.View.{messages_left};
-ghost use Rattle.mmt_output.specs.Putting.{only_noted, Put};
-ghost use Rattle.mmt_recv.specs.Noting.{lines_of, at_place, untuned_message, untuned_messages, untuned_signals, untuned_notes as notes_before};
+ghost use Rattle.mmt_io.specs.Output.{Notes};
+ghost use Rattle.mmt_recv.specs.Noting.{lines_of, at_place, untuned_message, untuned_messages};
+ghost use Rattle.mmt_recv.specs.Noting.{untuned_signals, untuned_notes as notes_before};
+ghost use Rattle.mmt_recv.specs.Taking.{packet_at};
 
 use mmt_base::Refused;
 use mmt_io::Port;
@@ -28,12 +30,10 @@ fn note_message<P: Port>(
     message: &[u8],
 ) -> Result<(), Untold>
     requires { length message.now < 2 ^ 31 }
-    ensures tells { P.tells port.new ≡ P.tells port.old }
-    ensures reads { P.read_faults port.new ≡ P.read_faults port.old }
-    ensures writes { P.write_faults port.old ≤ P.write_faults port.new }
+    ensures sends { OnlySends P.tells P.left P.read_faults P.write_faults port.old port.new }
     ensures cause { IsErrOf result Untold.WriteFault → Rose (P.write_faults port.old) (P.write_faults port.new) }
-    ensures left { IsTrue (P.tells port.old) → P.left port.new ≡ P.left port.old }
-    ensures put { IsTrue (P.tells port.old) → Put (P.history port.old) (P.history port.new) (only_noted (lines_of (at_place place (untuned_message bound number (message_of message.now))))) result }
+    ensures put { Notes P.tells P.history port.old port.new
+        (lines_of (at_place place (untuned_message bound number (message_of message.now)))) result }
 {
     match read_message(message) {
         Ok(Message::Hrbm { version: _, params }) => {
@@ -74,12 +74,10 @@ fn note_messages<P: Port>(
 ) -> Result<(), Untold>
     requires short { All (λ m. length m < 2 ^ 31) (messages_left messages) }
     requires few { length (messages_left messages) < 2 ^ 32 }
-    ensures tells { P.tells port.new ≡ P.tells port.old }
-    ensures reads { P.read_faults port.new ≡ P.read_faults port.old }
-    ensures writes { P.write_faults port.old ≤ P.write_faults port.new }
+    ensures sends { OnlySends P.tells P.left P.read_faults P.write_faults port.old port.new }
     ensures cause { IsErrOf result Untold.WriteFault → Rose (P.write_faults port.old) (P.write_faults port.new) }
-    ensures left { IsTrue (P.tells port.old) → P.left port.new ≡ P.left port.old }
-    ensures put { IsTrue (P.tells port.old) → Put (P.history port.old) (P.history port.new) (only_noted (lines_of (at_place place (untuned_messages bound 0 (messages_left messages.entry))))) result }
+    ensures put { Notes P.tells P.history port.old port.new
+        (lines_of (at_place place (untuned_messages bound 0 (messages_left messages.entry)))) result }
 {
     let mut number: u32 = 0;
     for message in messages {
@@ -104,12 +102,10 @@ pub(crate) fn note_untuned<P: Port>(
     requires place { place < 2 ^ 63 + 2 ^ 17 }
     requires fits { MmtpFits (mmtp_of packet.now) }
     requires short { length packet.now.payload.now < 2 ^ 16 }
-    ensures tells { P.tells port.new ≡ P.tells port.old }
-    ensures reads { P.read_faults port.new ≡ P.read_faults port.old }
-    ensures writes { P.write_faults port.old ≤ P.write_faults port.new }
+    ensures sends { OnlySends P.tells P.left P.read_faults P.write_faults port.old port.new }
     ensures cause { IsErrOf result Untold.WriteFault → Rose (P.write_faults port.old) (P.write_faults port.new) }
-    ensures left { IsTrue (P.tells port.old) → P.left port.new ≡ P.left port.old }
-    ensures put { IsTrue (P.tells port.old) → Put (P.history port.old) (P.history port.new) (only_noted (lines_of (notes_before bound (record { place = place; packet = mmtp_of packet.now })))) result }
+    ensures put { Notes P.tells P.history port.old port.new
+        (lines_of (notes_before bound (packet_at place packet.now))) result }
 {
     if packet.packet_id != 0 {
         return Ok(());
@@ -134,12 +130,10 @@ fn note_signals<P: Port>(
 ) -> Result<(), Untold>
     requires place { place < 2 ^ 63 + 2 ^ 18 }
     requires short { length payload.now < 2 ^ 16 }
-    ensures tells { P.tells port.new ≡ P.tells port.old }
-    ensures reads { P.read_faults port.new ≡ P.read_faults port.old }
-    ensures writes { P.write_faults port.old ≤ P.write_faults port.new }
+    ensures sends { OnlySends P.tells P.left P.read_faults P.write_faults port.old port.new }
     ensures cause { IsErrOf result Untold.WriteFault → Rose (P.write_faults port.old) (P.write_faults port.new) }
-    ensures left { IsTrue (P.tells port.old) → P.left port.new ≡ P.left port.old }
-    ensures put { IsTrue (P.tells port.old) → Put (P.history port.old) (P.history port.new) (only_noted (lines_of (untuned_signals bound place (signals_of payload.now)))) result }
+    ensures put { Notes P.tells P.history port.old port.new
+        (lines_of (untuned_signals bound place (signals_of payload.now))) result }
 {
     let found = match read_sig(payload) {
         Ok(found) => found,

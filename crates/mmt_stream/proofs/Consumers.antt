@@ -3,7 +3,7 @@ use Rattle.std.proofs.Common.{◌≡◌, ◌⊎◌, inl, inr, ℕ, List, [], ◌
 use Rattle.std.proofs.lemmas.List.{append-nil}
 use Rattle.mmt_io.specs.History.{Event}
 use Rattle.mmt_io.specs.History.Event.{Out}
-use Rattle.mmt_stream.specs.Output.{Output, nothing, followed, output_of, IsStartOf}
+use Rattle.mmt_io.specs.Output.{Output, nothing, followed, output_of, IsPrefixOf}
 use Rattle.mmt_stream.specs.Consuming.{Emits, EmitsStart}
 use Rattle.mmt_stream.proofs.Outputs.{followed_assoc, followed-nothing, start_trans, start_of_both}
 
@@ -23,12 +23,12 @@ gathers history gathered gathered' whole whole' more grown longer = record {
 }
 
 -- nothing goes out, and the run ends
-pub stops : (history : List Event) (gathered whole whole' : Output) → IsStartOf whole whole' → EmitsStart history history gathered whole whole'
+pub stops : (history : List Event) (gathered whole whole' : Output) → IsPrefixOf whole whole' → EmitsStart history history gathered whole whole'
 stops history gathered whole whole' grows = record {
   events = [];
   history = sym (append-nil history);
   outputs = tt;
-  output = λ done is. subst (λ o. IsStartOf o whole') (sym (followed-nothing done)) (start_trans done whole whole' (start_of_both done gathered whole is) grows);
+  output = λ done is. subst (λ o. IsPrefixOf o whole') (sym (followed-nothing done)) (start_trans done whole whole' (start_of_both done gathered whole is) grows);
 }
 
 -- nothing was gathered
@@ -52,14 +52,14 @@ puts_out old new bytes whole grown = record {
   output = λ done is. followed-nothing (followed done (output_of (Out bytes ∷ []))) ∙ (ap (λ o. followed done o) (text_out bytes) ∙ is);
 }
 
-part_of : (done whole : Output) (bytes part rest : List ℕ) → bytes ≡ part ++ rest → followed done (text bytes) ≡ whole → IsStartOf (followed done (output_of (Out part ∷ []))) whole
+part_of : (done whole : Output) (bytes part rest : List ℕ) → bytes ≡ part ++ rest → followed done (text bytes) ≡ whole → IsPrefixOf (followed done (output_of (Out part ∷ []))) whole
 part_of done whole bytes part rest split is =
     let all : followed (followed done (text part)) (text rest) ≡ whole =
     followed_assoc done (text part) (text rest) ∙ (ap (λ b. followed done (text b)) (sym split) ∙ is) in
     start_of_both _ (text rest) whole (ap (λ o. followed (followed done o) (text rest)) (text_out part) ∙ all)
 
 -- a write failed after a part
-pub puts_out_part : (old new : List Event) (bytes : List ℕ) (whole whole' : Output) → IsStartOf whole whole'
+pub puts_out_part : (old new : List Event) (bytes : List ℕ) (whole whole' : Output) → IsPrefixOf whole whole'
     → (new ≡ old) ⊎ ((part : List ℕ) × (rest : List ℕ) × (bytes ≡ part ++ rest) × (new ≡ old ++ Out part ∷ [])) → EmitsStart old new (text bytes) whole whole'
 puts_out_part old new bytes whole whole' grows (inl same) =
     let P : List Event → Type 0 = λ h. EmitsStart old h (text bytes) whole whole' in

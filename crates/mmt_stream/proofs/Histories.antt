@@ -5,7 +5,7 @@ use Rattle.mmt_io.specs.History.{Event, bytes_read, AtEachRead}
 use Rattle.mmt_io.specs.History.Event.{In, Out, Note}
 use Rattle.mmt_io.proofs.Passing.{bytes_read-append, at_each_write, at_each_note, at_each_read}
 use Rattle.mmt_tlv.specs.Framing.{Packet}
-use Rattle.mmt_stream.specs.Output.{NoRead}
+use Rattle.mmt_io.specs.Output.{NoRead}
 use Rattle.mmt_stream.specs.Consuming.{Meaning}
 use Rattle.mmt_stream.specs.Streaming.{HasEnded, EndsOnce, HasShown, Passed}
 

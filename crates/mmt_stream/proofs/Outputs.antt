@@ -4,7 +4,7 @@ use Rattle.std.proofs.lemmas.List.{append-nil}
 use Rattle.mmt_io.specs.History.{Event}
 use Rattle.mmt_io.specs.History.Event.{In}
 use Rattle.mmt_io.proofs.Passing.{bytes_written-append, bytes_noted-append}
-use Rattle.mmt_stream.specs.Output.{Output, nothing, followed, output_of, IsPrefix, IsStartOf}
+use Rattle.mmt_io.specs.Output.{Output, nothing, followed, output_of, IsPrefix, IsPrefixOf}
 
 pub same_output : (a b : Output) → a.written ≡ b.written → a.noted ≡ b.noted → a ≡ b
 same_output a b written noted =
@@ -27,12 +27,12 @@ output_of-read events bytes = output_of-append events (In bytes ∷ []) ∙ foll
 prefix_trans : (a b c : List ℕ) → IsPrefix a b → IsPrefix b c → IsPrefix a c
 prefix_trans a b c (x, first) (y, second) = (x ++ y, second ∙ (ap (λ z. z ++ y) first ∙ append_assoc a x y))
 
-pub start_trans : (a b c : Output) → IsStartOf a b → IsStartOf b c → IsStartOf a c
+pub start_trans : (a b c : Output) → IsPrefixOf a b → IsPrefixOf b c → IsPrefixOf a c
 start_trans a b c first second = record {
   written = prefix_trans a.written b.written c.written first.written second.written;
   noted = prefix_trans a.noted b.noted c.noted first.noted second.noted;
 }
 
 -- what goes out before the rest is a start of the whole
-pub start_of_both : (a b whole : Output) → followed a b ≡ whole → IsStartOf a whole
+pub start_of_both : (a b whole : Output) → followed a b ≡ whole → IsPrefixOf a whole
 start_of_both a b whole is = record { written = (b.written, sym (ap (λ x. x.written) is)); noted = (b.noted, sym (ap (λ x. x.noted) is)) }

@@ -13,15 +13,15 @@ use Rattle.mmt_tlv.specs.declared.Fed.TheVariants as fed
 use Rattle.mmt_tlv.specs.declared.CutEnd.TheVariants as cut_end
 use Rattle.mmt_tlv.proofs.Stands.{NextPacket, stands_taken, stands_sync, stands_framed, stands_at_start}
 use Rattle.mmt_tlv.proofs.Unique.{same_packet, rest_is_short}
-use Rattle.mmt_stream.specs.Output.{Output, nothing, followed, output_of, IsStartOf, NoRead}
+use Rattle.mmt_io.specs.Output.{Output, nothing, followed, output_of, IsPrefixOf, NoRead}
 use Rattle.mmt_stream.specs.Consuming.{Meaning, Grows, Emits, EmitsStart, Settles}
 use Rattle.mmt_stream.specs.Streaming.{HasShown, HasFinished, HasBegun, HasEnded, Streams, Passed}
 use Rattle.mmt_stream.specs.Driving.{Turn, Stopped, EndsWith, halted}
 use Rattle.mmt_stream.specs.declared.end.StreamEnd.{StreamEnd}
 use Rattle.mmt_stream.specs.declared.end.StreamEnd.TheVariants as end
 use Rattle.mmt_stream.specs.declared.end.BrokenKind.TheVariants as kind
-use Rattle.mmt_stream.specs.declared.end.Halt.{Halt}
-use Rattle.mmt_stream.specs.declared.end.Halt.TheVariants as halt
+use Rattle.mmt_io.specs.declared.halt.Halt.{Halt}
+use Rattle.mmt_io.specs.declared.halt.Halt.TheVariants as halt
 use Rattle.mmt_stream.proofs.Framings.{IsFramed, framed, framed_behind}
 use Rattle.mmt_stream.proofs.Outputs.{followed-nothing, output_of-append, output_of-read, start_trans, start_of_both}
 use Rattle.mmt_stream.proofs.Histories.{read_same, read_more, ended_more, going_more, going_read, once_going, passed_more, passed_read}
@@ -47,15 +47,15 @@ more_packets (p ∷ ps) (q ∷ qs) r s e right =
     (others.0, ap (λ x. x ∷ qs) (sym first.0) ∙ ap (λ x. p ∷ x) others.1)
 
 -- a start of what belongs to the first packets is one of what belongs to all of them
-pub begun : (m : Meaning) (events : List Event) (packets : List Packet) (rest : List ℕ) → Grows m → bytes_read events ≡ joined packets ++ rest → IsFramed (bytes_read events) → IsStartOf (output_of events) (m.so_far packets) → HasBegun m events
+pub begun : (m : Meaning) (events : List Event) (packets : List Packet) (rest : List ℕ) → Grows m → bytes_read events ≡ joined packets ++ rest → IsFramed (bytes_read events) → IsPrefixOf (output_of events) (m.so_far packets) → HasBegun m events
 begun m events packets rest grows read (all, tail, framed) start =
     let more = more_packets packets all rest tail (sym read ∙ framed.whole) framed.left in
-    let later : IsStartOf (m.so_far packets) (m.so_far all) = subst (λ x. IsStartOf (m.so_far packets) (m.so_far x)) (sym more.1) (grows.more packets more.0) in
+    let later : IsPrefixOf (m.so_far packets) (m.so_far all) = subst (λ x. IsPrefixOf (m.so_far packets) (m.so_far x)) (sym more.1) (grows.more packets more.0) in
     (all, tail, framed, inl (start_trans (output_of events) (m.so_far packets) (m.so_far all) start later))
 
 -- what goes out behind what went out before
-went_out : (events more : List Event) (wanted : Output) → IsStartOf (followed (output_of events) (output_of more)) wanted → IsStartOf (output_of (events ++ more)) wanted
-went_out events more wanted start = subst (λ o. IsStartOf o wanted) (sym (output_of-append events more)) start
+went_out : (events more : List Event) (wanted : Output) → IsPrefixOf (followed (output_of events) (output_of more)) wanted → IsPrefixOf (output_of (events ++ more)) wanted
+went_out events more wanted start = subst (λ o. IsPrefixOf o wanted) (sym (output_of-append events more)) start
 
 all_out : (events more : List Event) (gathered wanted : Output) → followed (followed (output_of events) (output_of more)) gathered ≡ wanted → followed (output_of (events ++ more)) gathered ≡ wanted
 all_out events more gathered wanted is = ap (λ o. followed o gathered) (output_of-append events more) ∙ is

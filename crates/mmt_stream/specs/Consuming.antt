@@ -2,8 +2,8 @@
 use Rattle.std.specs.Prelude.{◌≡◌, List, [], ◌∷◌, ◌++◌, Result, Ok, Err, ⊤}
 use Rattle.mmt_io.specs.History.{Event}
 use Rattle.mmt_tlv.specs.Framing.{Packet}
-use Rattle.mmt_stream.specs.Output.{Output, nothing, followed, output_of, IsStartOf, NoRead}
-use Rattle.mmt_stream.specs.declared.end.Halt.{Halt}
+use Rattle.mmt_io.specs.Output.{Output, nothing, followed, output_of, IsPrefixOf, NoRead}
+use Rattle.mmt_io.specs.declared.halt.Halt.{Halt}
 
 -- what belongs to the packets of a stream: while it goes on, and once it has ended
 pub record Meaning : Type 0 where
@@ -13,8 +13,8 @@ pub record Meaning : Type 0 where
 -- Nothing belongs to no packets, more packets add behind what there is, and so does the end.
 pub record Grows (m : Meaning) : Type 0 where
   pub none : m.so_far [] ≡ nothing
-  pub more : (packets others : List Packet) → IsStartOf (m.so_far packets) (m.so_far (packets ++ others))
-  pub end : (packets : List Packet) → IsStartOf (m.so_far packets) (m.at_end packets)
+  pub more : (packets others : List Packet) → IsPrefixOf (m.so_far packets) (m.so_far (packets ++ others))
+  pub end : (packets : List Packet) → IsPrefixOf (m.so_far packets) (m.at_end packets)
 
 -- Output was added to the history. With what was gathered before and what is gathered now it takes the one whole to the other.
 pub record Emits (old new : List Event) (gathered gathered' whole whole' : Output) : Type 0 where
@@ -28,7 +28,7 @@ pub record EmitsStart (old new : List Event) (gathered whole whole' : Output) : 
   pub events : List Event
   pub history : new ≡ old ++ events
   pub outputs : NoRead events
-  pub output : (done : Output) → followed done gathered ≡ whole → IsStartOf (followed done (output_of events)) whole'
+  pub output : (done : Output) → followed done gathered ≡ whole → IsPrefixOf (followed done (output_of events)) whole'
 
 -- one more packet
 abbrev pub Pushes : {C : Type 0} → Meaning → (C → List Packet → Type 0) → (C → Output) → C → List Packet → Packet → List Event → List Event → Result C Halt → Type 0

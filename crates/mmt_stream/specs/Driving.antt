@@ -3,13 +3,13 @@ use Rattle.std.specs.Prelude.{◌≡◌, ◌⊎◌, ℕ, ◌≤◌, List, [], �
 use Rattle.mmt_io.specs.History.{Event, bytes_read}
 use Rattle.mmt_tlv.specs.Framing.{Packet, joined, IsOutOfSync, Framed}
 use Rattle.mmt_tlv.specs.Cutting.{Cutting, StandsFor}
-use Rattle.mmt_stream.specs.Output.{Output, nothing, followed, output_of}
+use Rattle.mmt_io.specs.Output.{Output, nothing, followed, output_of}
 use Rattle.mmt_stream.specs.Consuming.{Meaning, Emits, EmitsStart}
 use Rattle.mmt_stream.specs.Streaming.{HasEnded, Passed, Streams}
 use Rattle.mmt_stream.specs.declared.end.StreamEnd.{StreamEnd}
 use Rattle.mmt_stream.specs.declared.end.StreamEnd.TheVariants as end
-use Rattle.mmt_stream.specs.declared.end.Halt.{Halt}
-use Rattle.mmt_stream.specs.declared.end.Halt.TheVariants as halt
+use Rattle.mmt_io.specs.declared.halt.Halt.{Halt}
+use Rattle.mmt_io.specs.declared.halt.Halt.TheVariants as halt
 use Rattle.mmt_stream.specs.declared.drive.Served.{Served}
 use Rattle.mmt_stream.specs.declared.drive.Served.TheVariants as served
 

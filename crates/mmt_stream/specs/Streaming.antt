@@ -4,7 +4,7 @@ use Rattle.mmt_io.specs.History.{Event, bytes_read, AtEachRead}
 use Rattle.mmt_io.specs.History.Event.{In}
 use Rattle.mmt_io.specs.Port.{Rose}
 use Rattle.mmt_tlv.specs.Framing.{Packet, joined, IsFront, IsOutOfSync, Framed}
-use Rattle.mmt_stream.specs.Output.{output_of, IsStartOf, NoRead}
+use Rattle.mmt_io.specs.Output.{output_of, IsPrefixOf, NoRead}
 use Rattle.mmt_stream.specs.Consuming.{Meaning}
 use Rattle.mmt_stream.specs.declared.end.StreamEnd.{StreamEnd}
 use Rattle.mmt_stream.specs.declared.end.StreamEnd.TheVariants as end
@@ -35,7 +35,7 @@ EndsOnce events = (before after : List Event) → events ≡ before ++ In [] ∷
 -- Of what belongs to the whole packets of the bytes read, a start went out; the end's is among it only where the stream had ended.
 abbrev pub HasBegun : Meaning → List Event → Type 0
 HasBegun m events = (packets : List Packet) × (tail : List ℕ) × Framed (bytes_read events) packets tail
-    × (IsStartOf (output_of events) (m.so_far packets) ⊎ (IsStartOf (output_of events) (m.at_end packets) × (HasEnded events ⊎ IsOutOfSync tail)))
+    × (IsPrefixOf (output_of events) (m.so_far packets) ⊎ (IsPrefixOf (output_of events) (m.at_end packets) × (HasEnded events ⊎ IsOutOfSync tail)))
 
 -- where a read answered the end of the input, nothing is unread
 abbrev pub IsAllRead : List Event → List ℕ → Type 0

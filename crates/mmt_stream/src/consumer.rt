@@ -1,13 +1,12 @@
 //! What is done with the packets of a stream.
 ghost use Rattle.std.specs.Prelude.{◌≡◌, ℕ, ◌^◌, ◌<◌, ◌≤◌, List, length, IsTrue, IfOk, IsErrOf};
-ghost use Rattle.mmt_io.specs.Port.{Rose};
+ghost use Rattle.mmt_io.specs.Port.{OnlySends, Rose};
 ghost use Rattle.mmt_tlv.specs.Framing.{Packet, Fits, spelling, joined};
 ghost use Rattle.mmt_tlv.specs.Cutting.{IsPacket};
-ghost use Rattle.mmt_stream.specs.Output.{Output};
+ghost use Rattle.mmt_io.specs.Output.{Output};
 ghost use Rattle.mmt_stream.specs.Consuming.{Meaning, Grows, Pushes, Settles, Finishes};
 
-use crate::end::Halt;
-use mmt_io::Port;
+use mmt_io::{Halt, Port};
 
 /// What is done with the packets of a stream, one after the other. Output may be gathered, and goes out when the
 /// consumer settles and when it finishes.
@@ -24,12 +23,9 @@ pub trait Consumer<P: Port>: Drop {
         requires whole { IsPacket tlv.now }
         requires bound { place < 2 ^ 63 }
         ensures same { IfOk result (λ next. meaning next ≡ meaning self) }
-        ensures tells { P.tells port.new ≡ P.tells port.old }
-        ensures reads { P.read_faults port.new ≡ P.read_faults port.old }
-        ensures writes { P.write_faults port.old ≤ P.write_faults port.new }
+        ensures sends { OnlySends P.tells P.left P.read_faults P.write_faults port.old port.new }
         ensures cause { IsErrOf result Halt.WriteFault →
             Rose (P.write_faults port.old) (P.write_faults port.new) }
-        ensures left { IsTrue (P.tells port.old) → P.left port.new ≡ P.left port.old }
         ensures pushed { IsTrue (P.tells port.old) → (packets : List Packet) (packet : Packet) →
             stands self packets → Fits packet → tlv.now ≡ spelling packet →
             place ≡ length (joined packets) →
@@ -39,12 +35,9 @@ pub trait Consumer<P: Port>: Drop {
     /// Puts out all that is gathered. It is called before each read.
     fn settle(self, port: &mut P) -> Result<Self, Halt>
         ensures same { IfOk result (λ next. meaning next ≡ meaning self) }
-        ensures tells { P.tells port.new ≡ P.tells port.old }
-        ensures reads { P.read_faults port.new ≡ P.read_faults port.old }
-        ensures writes { P.write_faults port.old ≤ P.write_faults port.new }
+        ensures sends { OnlySends P.tells P.left P.read_faults P.write_faults port.old port.new }
         ensures cause { IsErrOf result Halt.WriteFault →
             Rose (P.write_faults port.old) (P.write_faults port.new) }
-        ensures left { IsTrue (P.tells port.old) → P.left port.new ≡ P.left port.old }
         ensures settled { IsTrue (P.tells port.old) → (packets : List Packet) →
             stands self packets →
             Settles (meaning self) stands gathered self packets (P.history port.old)
@@ -52,12 +45,9 @@ pub trait Consumer<P: Port>: Drop {
 
     /// Puts out all that is gathered, and what belongs to the end of the stream.
     fn finish(self, port: &mut P) -> Result<(), Halt>
-        ensures tells { P.tells port.new ≡ P.tells port.old }
-        ensures reads { P.read_faults port.new ≡ P.read_faults port.old }
-        ensures writes { P.write_faults port.old ≤ P.write_faults port.new }
+        ensures sends { OnlySends P.tells P.left P.read_faults P.write_faults port.old port.new }
         ensures cause { IsErrOf result Halt.WriteFault →
             Rose (P.write_faults port.old) (P.write_faults port.new) }
-        ensures left { IsTrue (P.tells port.old) → P.left port.new ≡ P.left port.old }
         ensures finished { IsTrue (P.tells port.old) → (packets : List Packet) →
             stands self packets →
             Finishes (meaning self) (gathered self) packets (P.history port.old)

@@ -1,14 +1,14 @@
 //! The loop that reads a stream.
 ghost use Rattle.std.specs.Prelude.{◌≡◌, ◌≢◌, ℕ, ◌+◌, ◌^◌, ◌<◌, ◌≤◌, List, [], length, IsTrue};
 ghost use Rattle.mmt_io.specs.History.{Event};
-ghost use Rattle.mmt_io.specs.Port.{Rose};
+ghost use Rattle.mmt_io.specs.Port.{OnlySends, Rose};
 ghost use Rattle.mmt_tlv.specs.Framing.{Packet};
 ghost use Rattle.mmt_stream.specs.Streaming.{Streams, Does};
 ghost use Rattle.mmt_stream.specs.Driving.{Turn, Serves, EndsWith, IsNew};
 
 use crate::consumer::Consumer;
-use crate::end::{BrokenKind, Halt, StreamEnd};
-use mmt_io::Port;
+use crate::end::{BrokenKind, StreamEnd, end_of};
+use mmt_io::{Halt, Port};
 use mmt_tlv::{CutEnd, Cutter, Fed};
 use std::alloc::Global;
 
@@ -31,9 +31,7 @@ fn serve<P: Port, C: Consumer<P>>(
     piece: &[u8],
 ) -> Served<C>
     requires { cutter.old.place + length cutter.old.held + length piece.now < 2 ^ 63 }
-    ensures tells { P.tells port.new ≡ P.tells port.old }
-    ensures reads { P.read_faults port.new ≡ P.read_faults port.old }
-    ensures writes { P.write_faults port.old ≤ P.write_faults port.new }
+    ensures sends { OnlySends P.tells P.left P.read_faults P.write_faults port.old port.new }
     ensures cause { result ≡ Served.Halted Halt.WriteFault →
         Rose (P.write_faults port.old) (P.write_faults port.new) }
     ensures size { (next : C) → result ≡ Served.On next →
@@ -78,13 +76,10 @@ fn serve<P: Port, C: Consumer<P>>(
 fn finish<P: Port, C: Consumer<P>>(port: &mut P, consumer: C, wanted: StreamEnd) -> StreamEnd
     requires done { wanted ≢ StreamEnd.ReadFault }
     requires written { wanted ≢ StreamEnd.WriteFault }
-    ensures tells { P.tells port.new ≡ P.tells port.old }
-    ensures reads { P.read_faults port.new ≡ P.read_faults port.old }
-    ensures writes { P.write_faults port.old ≤ P.write_faults port.new }
+    ensures sends { OnlySends P.tells P.left P.read_faults P.write_faults port.old port.new }
     ensures read_fault { result ≢ StreamEnd.ReadFault }
     ensures write_fault { result ≡ StreamEnd.WriteFault →
         Rose (P.write_faults port.old) (P.write_faults port.new) }
-    ensures left { IsTrue (P.tells port.old) → P.left port.new ≡ P.left port.old }
     ensures finished { IsTrue (P.tells port.old) → (packets : List Packet) →
         C.stands consumer packets →
         EndsWith (C.meaning consumer) (C.gathered consumer) packets wanted (P.history port.old)
@@ -92,7 +87,7 @@ fn finish<P: Port, C: Consumer<P>>(port: &mut P, consumer: C, wanted: StreamEnd)
 {
     match consumer.finish(port) {
         Ok(()) => wanted,
-        Err(reason) => reason.end(),
+        Err(reason) => end_of(reason),
     }
 }
 
@@ -103,12 +98,10 @@ fn finish_broken<P: Port, C: Consumer<P>>(
     kind: BrokenKind,
     place: u64,
 ) -> StreamEnd
-    ensures tells { P.tells port.new ≡ P.tells port.old }
-    ensures reads { P.read_faults port.new ≡ P.read_faults port.old }
+    ensures sends { OnlySends P.tells P.left P.read_faults P.write_faults port.old port.new }
     ensures read_fault { result ≢ StreamEnd.ReadFault }
     ensures write_fault { result ≡ StreamEnd.WriteFault →
         Rose (P.write_faults port.old) (P.write_faults port.new) }
-    ensures left { IsTrue (P.tells port.old) → P.left port.new ≡ P.left port.old }
     ensures finished { IsTrue (P.tells port.old) → (packets : List Packet) →
         C.stands consumer packets →
         EndsWith (C.meaning consumer) (C.gathered consumer) packets (StreamEnd.Broken kind place)
@@ -144,7 +137,7 @@ fn read_through<P: Port, C: Consumer<P>>(
     'reads: loop {
         match consumer.settle(port) {
             Ok(next) => consumer = next,
-            Err(reason) => return reason.end(),
+            Err(reason) => return end_of(reason),
         }
         let room = limit - taken;
         let ask = room.min(buffer.len() as u64).max(1) as usize;
@@ -173,7 +166,7 @@ fn read_through<P: Port, C: Consumer<P>>(
             Served::Lost { consumer, place } => {
                 return finish_broken(port, consumer, BrokenKind::Sync, place);
             }
-            Served::Halted(reason) => return reason.end(),
+            Served::Halted(reason) => return end_of(reason),
         }
     }
 }

@@ -1,4 +1,8 @@
 //! How the reading of a stream ends.
+ghost use Rattle.std.specs.Prelude.{◌≡◌};
+ghost use Rattle.mmt_stream.specs.Driving.{halted};
+
+use mmt_io::Halt;
 
 /// What breaks a stream.
 #[derive(Clone, Copy, Debug, PartialEq, Eq)]
@@ -26,26 +30,12 @@ pub enum StreamEnd {
     TooLong,
 }
 
-/// What ends a consumer's work in the middle.
-#[derive(Clone, Copy, Debug, PartialEq, Eq)]
-pub enum Halt {
-    /// A write or a note failed.
-    WriteFault,
-    /// There was no memory.
-    OutOfMemory,
-}
-
-impl Halt {
-    ghost use Rattle.std.specs.Prelude.{◌≡◌};
-    ghost use Rattle.mmt_stream.specs.Driving.{halted};
-
-    /// How the reading ends that is halted so.
-    pub fn end(self) -> StreamEnd
-        ensures { result ≡ halted self }
-    {
-        match self {
-            Halt::WriteFault => StreamEnd::WriteFault,
-            Halt::OutOfMemory => StreamEnd::OutOfMemory,
-        }
+/// How the reading ends that is halted so.
+pub fn end_of(halt: Halt) -> StreamEnd
+    ensures { result ≡ halted halt }
+{
+    match halt {
+        Halt::WriteFault => StreamEnd::WriteFault,
+        Halt::OutOfMemory => StreamEnd::OutOfMemory,
     }
 }

@@ -7,4 +7,5 @@ pub mod end;
 
 pub use consumer::Consumer;
 pub use drive::stream;
-pub use end::{BrokenKind, Halt, StreamEnd};
+pub use end::{BrokenKind, StreamEnd};
+pub use mmt_io::Halt;

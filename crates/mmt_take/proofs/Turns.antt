@@ -4,9 +4,8 @@ use Rattle.mmt_io.specs.History.{Event}
 use Rattle.mmt_io.specs.History.Event.{Note}
 use Rattle.mmt_model.specs.Delivery.{newest_first}
 use Rattle.mmt_tlv.specs.Framing.{Packet, joined}
-use Rattle.mmt_stream.specs.Output.{nothing, followed}
+use Rattle.mmt_io.specs.Output.{nothing, followed, only_written, only_noted, Puts, PutsPrefix}
 use Rattle.mmt_stream.specs.Consuming.{Emits, EmitsStart}
-use Rattle.mmt_output.specs.Putting.{only_written, only_noted, Puts, PutsStart}
 use Rattle.mmt_output.proofs.Putting.{emits, emits_start, puts_both, puts_and_start, puts_noted, start_noted, puts_start, start_of_part}
 use Rattle.mmt_tune.specs.declared.config.Config.{Config}
 use Rattle.mmt_recv.specs.Receiving.{received, more, summary_of}
@@ -29,7 +28,7 @@ pushes config place packets packet old new at p = emits old new _ (more config (
 
 -- a start of it went out
 pub pushes_start : (config : Config) (place : ℕ) (packets : List Packet) (packet : Packet) (old new : List Event) → place ≡ length (joined packets)
-    → PutsStart old new (more config (placed (newest_first packets)) (record { place = place; packet = packet }))
+    → PutsPrefix old new (more config (placed (newest_first packets)) (record { place = place; packet = packet }))
     → EmitsStart old new nothing (received config (placed (newest_first packets))) (received config (placed (newest_first (packets ++ packet ∷ []))))
 pushes_start config place packets packet old new at p = emits_start old new _ (more config (placed (newest_first packets)) (record { place = place; packet = packet })) _ (at_place config place packets packet at) p
 
@@ -50,7 +49,7 @@ pub finishes_start : (config : Config) (packets : List Packet) (old mid new : Li
 finishes_start config packets old mid new bytes p line sent =
     emits_start old new _ (at_last config (placed (newest_first packets))) _ refl
     (puts_and_start old mid new _ (only_noted (line_of (summary_of config (placed (newest_first packets))))) p
-    (subst (λ b. PutsStart mid new (only_noted b)) line (start_noted mid new bytes sent)))
+    (subst (λ b. PutsPrefix mid new (only_noted b)) line (start_noted mid new bytes sent)))
 
 -- the records went out, and no memory was left for the note
 pub finishes_records : (config : Config) (packets : List Packet) (old new : List Event) → Puts old new (only_written (last_records config (placed (newest_first packets))))
@@ -59,7 +58,7 @@ finishes_records config packets old new p =
     emits_start old new _ (at_last config (placed (newest_first packets))) _ refl (start_of_part old new _ _ (puts_start old new _ p))
 
 -- a start of the records went out
-pub finishes_part : (config : Config) (packets : List Packet) (old new : List Event) → PutsStart old new (only_written (last_records config (placed (newest_first packets))))
+pub finishes_part : (config : Config) (packets : List Packet) (old new : List Event) → PutsPrefix old new (only_written (last_records config (placed (newest_first packets))))
     → EmitsStart old new nothing (received config (placed (newest_first packets))) (followed (received config (placed (newest_first packets))) (at_last config (placed (newest_first packets))))
 finishes_part config packets old new p =
     emits_start old new _ (at_last config (placed (newest_first packets))) _ refl (start_of_part old new _ _ p)

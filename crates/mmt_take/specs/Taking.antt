@@ -3,9 +3,8 @@ use Rattle.std.specs.Prelude.{ℕ, List, [], ◌∷◌, ◌++◌, length, codes,
 use Rattle.std.specs.List.{sum_by}
 use Rattle.mmt_model.specs.Delivery.{newest_first}
 use Rattle.mmt_tlv.specs.Framing.{Packet, spelling}
-use Rattle.mmt_stream.specs.Output.{Output, followed}
+use Rattle.mmt_io.specs.Output.{Output, followed, only_written, only_noted}
 use Rattle.mmt_stream.specs.Consuming.{Meaning}
-use Rattle.mmt_output.specs.Putting.{only_written, only_noted}
 use Rattle.mmt_output.specs.Records.{records}
 use Rattle.mmt_tune.specs.declared.config.Config.{Config}
 use Rattle.mmt_tune.specs.Tuning.{Placed}

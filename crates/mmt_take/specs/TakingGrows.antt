@@ -3,7 +3,7 @@ use Rattle.std.proofs.Common.{◌≡◌, List, [], ◌∷◌, ◌++◌, refl, ap
 use Rattle.std.proofs.lemmas.List.{append-nil}
 use Rattle.mmt_model.specs.Delivery.{onto, newest_first}
 use Rattle.mmt_tlv.specs.Framing.{Packet}
-use Rattle.mmt_stream.specs.Output.{nothing, followed, IsStartOf}
+use Rattle.mmt_io.specs.Output.{nothing, followed, IsPrefixOf}
 use Rattle.mmt_stream.specs.Consuming.{Grows}
 use Rattle.mmt_stream.proofs.Outputs.{start_trans, start_of_both}
 use Rattle.mmt_output.proofs.Putting.{start_itself}
@@ -37,15 +37,15 @@ received_next config packets packet =
     sym (ap (received config) (placed_next packets packet) ∙ received_more config (placed (newest_first packets)) (record { place = bytes_of (newest_first packets); packet = packet }))
 
 one_more : (config : Config) (packets : List Packet) (packet : Packet)
-    → IsStartOf (received config (placed (newest_first packets))) (received config (placed (newest_first (packets ++ packet ∷ []))))
+    → IsPrefixOf (received config (placed (newest_first packets))) (received config (placed (newest_first (packets ++ packet ∷ []))))
 one_more config packets packet = start_of_both _ _ _ (received_next config packets packet)
 
 pub goes_on : (config : Config) (packets others : List Packet)
-    → IsStartOf (received config (placed (newest_first packets))) (received config (placed (newest_first (packets ++ others))))
-goes_on config packets [] = subst (λ l. IsStartOf (received config (placed (newest_first packets))) (received config (placed (newest_first l)))) (sym (append-nil packets)) (start_itself _)
+    → IsPrefixOf (received config (placed (newest_first packets))) (received config (placed (newest_first (packets ++ others))))
+goes_on config packets [] = subst (λ l. IsPrefixOf (received config (placed (newest_first packets))) (received config (placed (newest_first l)))) (sym (append-nil packets)) (start_itself _)
 goes_on config packets (p ∷ others) =
     start_trans _ _ _ (one_more config packets p)
-    (subst (λ l. IsStartOf (received config (placed (newest_first (packets ++ p ∷ [])))) (received config (placed (newest_first l)))) (append_assoc packets (p ∷ []) others) (goes_on config (packets ++ p ∷ []) others))
+    (subst (λ l. IsPrefixOf (received config (placed (newest_first (packets ++ p ∷ [])))) (received config (placed (newest_first l)))) (append_assoc packets (p ∷ []) others) (goes_on config (packets ++ p ∷ []) others))
 
 pub taking_grows : (config : Config) → Grows (taking config)
 taking_grows config = record {

@@ -1,7 +1,7 @@
 //! The command `take`.
 
 ghost use Rattle.std.specs.Prelude.{◌≡◌, ◌≤◌, ◌^◌, [], IfOk, string_bytes};
-ghost use Rattle.mmt_stream.specs.Output.{nothing};
+ghost use Rattle.mmt_io.specs.Output.{nothing};
 ghost use Rattle.mmt_model.specs.Delivery.{newest_first};
 ghost use Rattle.mmt_recv.specs.Receiving.{Stands};
 ghost use Rattle.mmt_take.specs.Taking.{taking, placed, line_of};

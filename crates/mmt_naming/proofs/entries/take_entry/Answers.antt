@@ -7,7 +7,7 @@ use Rattle.mmt_times.specs.Learning.{Verdict}
 use Rattle.mmt_times.specs.LearnedView.{view_learned}
 use Rattle.mmt_times.proofs.Learning.{added}
 use Rattle.mmt_output.specs.Notes.{note_text}
-use Rattle.mmt_output.specs.Putting.{only_noted, Put, Puts}
+use Rattle.mmt_io.specs.Output.{only_noted, Put, Puts}
 use Rattle.mmt_output.proofs.Putting.{puts_nothing}
 use Rattle.mmt_naming.proofs.One.{on_ok, unchanged, learned_one, lines_one}
 use Rattle.mmt_naming.proofs.entries.take_entry.Goals as goal

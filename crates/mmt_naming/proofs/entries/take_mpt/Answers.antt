@@ -1,5 +1,5 @@
 use Rattle.std.proofs.Common.{ℕ, ◌+◌, List, subst}
-use Rattle.mmt_output.specs.Putting.{only_noted, Put}
+use Rattle.mmt_io.specs.Output.{only_noted, Put}
 use Rattle.mmt_output.specs.declared.notes.Note.TheVariants as notes
 use Rattle.mmt_naming.proofs.One.{on_ok, learned_none, lines_remark}
 use Rattle.mmt_naming.proofs.Places.{names_in_table}

@@ -1,5 +1,6 @@
 use Rattle.std.proofs.Common.{◌∙◌, sym, subst, ℕ, List, [], ◌∷◌, map, arith}
 use Rattle.std.specs.Prelude.{IsTrue}
+use Rattle.mmt_io.proofs.Sends.{sends_both}
 use Rattle.mmt_times.specs.NamedView.{view_named}
 use Rattle.mmt_times.specs.NamedLeft.{named_left}
 use Rattle.mmt_naming.specs.Findings.{finding_of}
@@ -21,16 +22,13 @@ loop-named-preserved g c =
     let place = c.args.by.now.place in
     let now = c.args.by.now.clock.0 in
     record {
-      tells = e.tells ∙ i.tells;
-      reads = e.reads ∙ i.reads;
-      writes = omega (arith, e.writes, i.writes);
-      left = λ told. e.left (subst IsTrue (sym i.tells) told) ∙ i.left told;
+      sends = sends_both i.sends e.sends;
       places = (rw c.in-Some.ensures.steps at i.places).1;
       told = e.told;
       names = learned_more now c.args.names.now c.loop-named.names c.take_name.new.names all here left (rw c.in-Some.ensures.steps at i.names) e.names;
       begun = λ told.
           let b = i.begun told in
-          lines_more place now _ _ _ (lines_of place now c.args.names.now.entries all) c.loop-named.names c.take_name.new.names here left (rw c.in-Some.ensures.steps at b) e.names (e.put (subst IsTrue (sym i.tells) told));
+          lines_more place now _ _ _ (lines_of place now c.args.names.now.entries all) c.loop-named.names c.take_name.new.names here left (rw c.in-Some.ensures.steps at b) e.names (e.put (subst IsTrue (sym i.sends.telling) told));
     }
 
 pub returns-in-Err-clause-put : goal.returns-in-Err-clause-put
@@ -41,7 +39,7 @@ returns-in-Err-clause-put g c = λ told.
     let now = c.args.by.now.clock.0 in
     let b = i.begun told in
     lines_part place now _ _ _ (lines_of place now c.args.names.now.entries (map of (named_left c.args.entries))) c.loop-named.names (of (view_named c.in-Some.named) ∷ []) (map of (named_left c.next.new.self))
-    (rw c.in-Some.ensures.steps at b) (c.in-Err.ensures.put (subst IsTrue (sym i.tells) told))
+    (rw c.in-Some.ensures.steps at b) (c.in-Err.ensures.put (subst IsTrue (sym i.sends.telling) told))
 
 pub returns-clause-names : goal.returns-clause-names
 returns-clause-names g c = learned_none c.args.by.now.clock.0 c.loop-named.names ∙ (rw c.in-None.ensures.steps.0 at c.loop-named.invariant.names)

@@ -1,6 +1,7 @@
 use Rattle.std.proofs.Common.{◌≡◌, ◌≤◌, map}
 use Rattle.std.specs.Prelude.{IsTrue}
 use Rattle.std.specs.List.{AllByRecursion}
+use Rattle.mmt_io.specs.Port.{OnlySends}
 use Rattle.mmt_runs.specs.Told.{IsTold}
 use Rattle.mmt_times.specs.NamedLeft.{named_left}
 use Rattle.mmt_naming.specs.Findings.{finding_of}
@@ -14,10 +15,7 @@ invariant-loop-named g l =
     let port = g.P.Port in
     let of = finding_of l.fn.spot.message l.fn.spot.at in
     record {
-      tells : port.tells l.port ≡ port.tells l.fn.port;
-      reads : port.read_faults l.port ≡ port.read_faults l.fn.port;
-      writes : port.write_faults l.fn.port ≤ port.write_faults l.port;
-      left : IsTrue (port.tells l.fn.port) → port.left l.port ≡ port.left l.fn.port;
+      sends : OnlySends port.tells port.left port.read_faults port.write_faults l.fn.port l.port;
       places : AllByRecursion IsInTable (named_left l.named-iterator);
       told : IsTold l.runs l.fn.pool.kept l.names;
       names : learned_by l.fn.by.clock.0 l.names (map of (named_left l.named-iterator)) ≡ learned_by l.fn.by.clock.0 l.fn.names (map of (named_left l.fn.entries));

@@ -1,6 +1,7 @@
 use Rattle.std.proofs.Common.{◌<◌, ◌^◌, ◌+◌, ◌∙◌, sym, subst, ap, length, arith}
 use Rattle.std.specs.Prelude.{IsTrue}
 use Rattle.std.proofs.lemmas.List.Elements.{All-tail}
+use Rattle.mmt_io.proofs.Sends.{sends_both}
 use Rattle.mmt_sig.specs.View.{messages_left}
 use Rattle.mmt_naming.specs.Findings.{findings_in, findings_from}
 use Rattle.mmt_naming.specs.Lines.{lines_of}
@@ -26,16 +27,13 @@ loop-message-preserved g c =
     let left = findings_from timescale tuned (number + 1) rest in
     let split = ap (findings_from timescale tuned number) n ∙ messages_more timescale tuned number m rest in
     record {
-      tells = e.tells ∙ i.tells;
-      reads = e.reads ∙ i.reads;
-      writes = omega (arith, e.writes, i.writes);
-      left = λ told. e.left (subst IsTrue (sym i.tells) told) ∙ i.left told;
+      sends = sends_both i.sends e.sends;
       count = omega (arith, ap length n, i.count);
       within = All-tail (λ x. length x < 2 ^ 31) _ _ (rw n at i.within);
       told = e.told;
       names = learned_step now c.args.names.now c.loop-message.names c.take_message.new.names all whole here left split i.names e.names;
       begun = λ told.
-          lines_step place now _ _ _ (lines_of place now c.args.names.now.entries all) c.loop-message.names c.take_message.new.names whole here left split (i.begun told) e.names (e.put (subst IsTrue (sym i.tells) told));
+          lines_step place now _ _ _ (lines_of place now c.args.names.now.entries all) c.loop-message.names c.take_message.new.names whole here left split (i.begun told) e.names (e.put (subst IsTrue (sym i.sends.telling) told));
     }
 
 pub returns-in-Err-clause-put : goal.returns-in-Err-clause-put
@@ -54,7 +52,7 @@ returns-in-Err-clause-put g c = λ told.
     let here = findings_in timescale tuned number m in
     let left = findings_from timescale tuned (number + 1) rest in
     lines_stop place now _ _ _ (lines_of place now c.args.names.now.entries all) c.loop-message.names whole here left (ap (findings_from timescale tuned number) n ∙ messages_more timescale tuned number m rest) (i.begun told)
-    (c.in-Err.ensures.put (subst IsTrue (sym i.tells) told))
+    (c.in-Err.ensures.put (subst IsTrue (sym i.sends.telling) told))
 
 pub returns-clause-names : goal.returns-clause-names
 returns-clause-names g c =

@@ -1,6 +1,7 @@
 use Rattle.std.proofs.Common.{◌≡◌, ◌+◌, ◌^◌, ◌<◌, ◌≤◌, length}
 use Rattle.std.specs.Prelude.{IsTrue}
 use Rattle.std.specs.List.{All}
+use Rattle.mmt_io.specs.Port.{OnlySends}
 use Rattle.mmt_runs.specs.Told.{IsTold}
 use Rattle.mmt_sig.specs.View.{messages_left}
 use Rattle.mmt_naming.specs.Findings.{findings_from}
@@ -14,10 +15,7 @@ invariant-loop-message g l =
     let of = findings_from l.fn.by.timescale l.fn.by.tuned in
     let now = l.fn.by.clock.0 in
     record {
-      tells : port.tells l.port ≡ port.tells l.fn.port;
-      reads : port.read_faults l.port ≡ port.read_faults l.fn.port;
-      writes : port.write_faults l.fn.port ≤ port.write_faults l.port;
-      left : IsTrue (port.tells l.fn.port) → port.left l.port ≡ port.left l.fn.port;
+      sends : OnlySends port.tells port.left port.read_faults port.write_faults l.fn.port l.port;
       count : l.number + length (messages_left l.message-iterator) < 2 ^ 32;
       within : All (λ m. length m < 2 ^ 31) (messages_left l.message-iterator);
       told : IsTold l.runs l.fn.pool.kept l.names;

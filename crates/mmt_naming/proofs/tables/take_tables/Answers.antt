@@ -1,6 +1,7 @@
 use Rattle.std.proofs.Common.{◌≡◌, ◌<◌, ◌^◌, ◌+◌, ◌∙◌, refl, sym, subst, ap, length, slice_index, arith}
 use Rattle.std.specs.Prelude.{IsTrue}
 use Rattle.std.proofs.lemmas.List.Elements.{All-tail}
+use Rattle.mmt_io.proofs.Sends.{sends_both}
 use Rattle.mmt_sig.specs.TableView.{view_table}
 use Rattle.mmt_sig.specs.MessageView.{tables_left}
 use Rattle.mmt_naming.specs.Findings.{findings_of_table, findings_of_tables}
@@ -27,10 +28,7 @@ loop-table-preserved g c =
     let left = findings_of_tables timescale message (at + length t.bytes) rest in
     let split = ap (findings_of_tables timescale message at) n ∙ tables_more timescale message at (at + length t.bytes) t rest refl in
     record {
-      tells = e.tells ∙ i.tells;
-      reads = e.reads ∙ i.reads;
-      writes = omega (arith, e.writes, i.writes);
-      left = λ told. e.left (subst IsTrue (sym i.tells) told) ∙ i.left told;
+      sends = sends_both i.sends e.sends;
       fits =
           let shorter : length t.bytes < 2 ^ 17 = (rw n at i.within) 0 t (omega arith) in
           omega (arith, shorter, ap length n, i.fits);
@@ -39,7 +37,7 @@ loop-table-preserved g c =
       told = e.told;
       names = learned_step now c.args.names.now c.loop-table.names c.take_table.new.names all whole here left split i.names e.names;
       begun = λ told.
-          lines_step place now _ _ _ (lines_of place now c.args.names.now.entries all) c.loop-table.names c.take_table.new.names whole here left split (i.begun told) e.names (e.put (subst IsTrue (sym i.tells) told));
+          lines_step place now _ _ _ (lines_of place now c.args.names.now.entries all) c.loop-table.names c.take_table.new.names whole here left split (i.begun told) e.names (e.put (subst IsTrue (sym i.sends.telling) told));
     }
 
 pub returns-in-Err-clause-put : goal.returns-in-Err-clause-put
@@ -58,7 +56,7 @@ returns-in-Err-clause-put g c = λ told.
     let here = findings_of_table timescale message at t in
     let left = findings_of_tables timescale message (at + length t.bytes) rest in
     lines_stop place now _ _ _ (lines_of place now c.args.names.now.entries all) c.loop-table.names whole here left (ap (findings_of_tables timescale message at) n ∙ tables_more timescale message at (at + length t.bytes) t rest refl) (i.begun told)
-    (c.in-Err.ensures.put (subst IsTrue (sym i.tells) told))
+    (c.in-Err.ensures.put (subst IsTrue (sym i.sends.telling) told))
 
 pub returns-clause-names : goal.returns-clause-names
 returns-clause-names g c =

@@ -1,6 +1,7 @@
 use Rattle.std.proofs.Common.{◌≡◌, ◌+◌, ◌*◌, ◌^◌, ◌<◌, ◌≤◌, length, slice_index}
 use Rattle.std.specs.Prelude.{IsTrue}
 use Rattle.std.specs.List.{All}
+use Rattle.mmt_io.specs.Port.{OnlySends}
 use Rattle.mmt_runs.specs.Told.{IsTold}
 use Rattle.mmt_sig.specs.MessageView.{tables_left}
 use Rattle.mmt_naming.specs.Findings.{findings_of_tables}
@@ -14,10 +15,7 @@ invariant-loop-table g l =
     let of = findings_of_tables l.fn.by.timescale l.fn.spot.message in
     let now = l.fn.by.clock.0 in
     record {
-      tells : port.tells l.port ≡ port.tells l.fn.port;
-      reads : port.read_faults l.port ≡ port.read_faults l.fn.port;
-      writes : port.write_faults l.fn.port ≤ port.write_faults l.port;
-      left : IsTrue (port.tells l.fn.port) → port.left l.port ≡ port.left l.fn.port;
+      sends : OnlySends port.tells port.left port.read_faults port.write_faults l.fn.port l.port;
       fits : l.at + 2 ^ 17 * (length (tables_left l.table-iterator) + 1) < 2 ^ 32;
       within : All (λ t. length t.bytes < 2 ^ 17) (tables_left l.table-iterator);
       begin : All (λ t. slice_index t.bytes 0 ≡ t.id) (tables_left l.table-iterator);

@@ -1,5 +1,6 @@
 use Rattle.std.proofs.Common.{◌≡◌, ◌≤◌, List, map, length}
 use Rattle.std.specs.Prelude.{IsTrue}
+use Rattle.mmt_io.specs.Port.{OnlySends}
 use Rattle.mmt_model.specs.Handing.{Presentation, due_units}
 use Rattle.mmt_model.specs.Units.{units_of}
 use Rattle.mmt_runs.specs.Leading.{rest_after}
@@ -12,10 +13,7 @@ invariant-units g l =
     let port = g.P.Port in
     let due : List Presentation = due_units l.names.sample_base l.names.entries (units_of (map heard l.pool.kept)) l.from.0 l.to.0 in
     record {
-      tells : port.tells l.port ≡ port.tells l.fn.port;
-      reads : port.read_faults l.port ≡ port.read_faults l.fn.port;
-      writes : port.write_faults l.fn.port ≤ port.write_faults l.port;
-      left : IsTrue (port.tells l.fn.port) → port.left l.port ≡ port.left l.fn.port;
+      sends : OnlySends port.tells port.left port.read_faults port.write_faults l.fn.port l.port;
       hands : HandsOut (IsTrue (port.tells l.fn.port)) (port.history l.fn.port) (port.history l.port) due (rest_after l.after due) l.handed;
     }
 

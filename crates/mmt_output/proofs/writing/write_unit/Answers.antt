@@ -1,5 +1,6 @@
-use Rattle.std.proofs.Common.{arith, sym, subst, ◌≡◌, ◌∙◌}
+use Rattle.std.proofs.Common.{rules, arith, sym, subst, ◌≡◌, ◌∙◌}
 use Rattle.std.specs.Prelude.{IsTrue}
+use Rattle.mmt_io.proofs.Sends.{sends_both}
 use Rattle.mmt_runs.specs.Lending.{the_presentation}
 use Rattle.mmt_output.specs.Records.{header_of}
 use Rattle.mmt_output.proofs.Putting.{puts_written, start_written}
@@ -17,10 +18,7 @@ parts-init g c =
     let is : c.header-front.result ≡ header_of (the_presentation c.args.unit) =
     c.header-front.ensures ∙ header_same c.args.unit c.order-order.result c.priority.result c.dependency.result c.length.result c.order-order.ensures c.priority.ensures c.dependency.ensures c.length.ensures in
     record {
-      tells = c.in-Ok.ensures.tells;
-      reads = c.in-Ok.ensures.reads;
-      writes = c.in-Ok.ensures.cause.later;
-      left = c.in-Ok.ensures.left;
+      sends = search rules;
       begun = λ told. begun _ _ c.args.unit c.header-front.result is (puts_written _ _ _ (c.in-Ok.ensures.bytes told));
     }
 
@@ -29,14 +27,11 @@ parts-preserved g c =
     let i = c.parts.invariant in
     let e = c.in-Ok-write_part.ensures in
     record {
-      tells = e.tells ∙ i.tells;
-      reads = e.reads ∙ i.reads;
-      writes = omega (arith, e.writes, i.writes);
-      left = λ told. e.left (subst IsTrue (sym i.tells) told) ∙ i.left told;
+      sends = sends_both i.sends e.sends;
       begun = λ told.
           let b = i.begun told in
           let n = c.in-Some.ensures in
-          begun_more _ _ _ _ _ _ (rw n at b) (e.put (subst IsTrue (sym i.tells) told));
+          begun_more _ _ _ _ _ _ (rw n at b) (e.put (subst IsTrue (sym i.sends.telling) told));
     }
 
 pub returns-in-Err-write_part-clause-put : goal.returns-in-Err-write_part-clause-put
@@ -44,4 +39,4 @@ returns-in-Err-write_part-clause-put g c = λ told.
     let i = c.parts.invariant in
     let b = i.begun told in
     let n = c.in-Some.ensures in
-    begun_part _ _ _ _ _ _ (rw n at b) (c.in-Err-write_part.ensures.put (subst IsTrue (sym i.tells) told))
+    begun_part _ _ _ _ _ _ (rw n at b) (c.in-Err-write_part.ensures.put (subst IsTrue (sym i.sends.telling) told))

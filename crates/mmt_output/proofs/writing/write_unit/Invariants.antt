@@ -1,5 +1,6 @@
 use Rattle.std.proofs.Common.{◌≡◌, ◌≤◌, length}
 use Rattle.std.specs.Prelude.{IsTrue}
+use Rattle.mmt_io.specs.Port.{OnlySends}
 use Rattle.mmt_runs.specs.Lending.{the_presentation}
 use Rattle.mmt_output.specs.Records.{record_of}
 use Rattle.mmt_output.proofs.Recording.{Begun}
@@ -9,10 +10,7 @@ abbrev pub invariant-parts : goal.invariant-parts
 invariant-parts g l =
     let port = g.P.Port in
     record {
-      tells : port.tells l.port ≡ port.tells l.fn.port;
-      reads : port.read_faults l.port ≡ port.read_faults l.fn.port;
-      writes : port.write_faults l.fn.port ≤ port.write_faults l.port;
-      left : IsTrue (port.tells l.fn.port) → port.left l.port ≡ port.left l.fn.port;
+      sends : OnlySends port.tells port.left port.read_faults port.write_faults l.fn.port l.port;
       begun : IsTrue (port.tells l.fn.port) → Begun (port.history l.fn.port) (port.history l.port) (record_of (the_presentation l.fn.unit)) l.unit.left;
     }
 

@@ -1,6 +1,6 @@
 use Rattle.std.proofs.Common.{ap, sym, ◌∙◌, map, subst}
 use Rattle.mmt_model.specs.Units.{units_of}
-use Rattle.mmt_output.specs.Putting.{only_written, Puts}
+use Rattle.mmt_io.specs.Output.{only_written, Puts}
 use Rattle.mmt_output.specs.Records.{amount_of, records}
 use Rattle.mmt_output.proofs.Putting.{puts_nothing}
 use Rattle.mmt_runs.specs.Reading.{heard}

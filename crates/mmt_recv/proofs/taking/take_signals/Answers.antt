@@ -1,7 +1,7 @@
 use Rattle.std.proofs.Common.{sym, subst}
 use Rattle.mmt_packet.specs.Spelling.{view}
 use Rattle.mmt_tune.specs.Tuning.{HeardAt}
-use Rattle.mmt_output.specs.Putting.{only_noted, Puts, PutsStart}
+use Rattle.mmt_io.specs.Output.{only_noted, Puts, PutsPrefix}
 use Rattle.mmt_recv.specs.Taking.{rules_at}
 use Rattle.mmt_recv.proofs.Taken.{left_put, left_takes, signals_lines, signals_opened, signals_pass, signals_shut, takes_none, takes_signals, unopened}
 use Rattle.mmt_recv.proofs.taking.take_signals.Goals as goal
@@ -44,7 +44,7 @@ returns-in-Ok-take_signals_of-clause-put g c = λ told.
 
 pub returns-in-Err-take_signals_of-clause-put : goal.returns-in-Err-take_signals_of-clause-put
 returns-in-Err-take_signals_of-clause-put g c = λ told.
-    subst (λ x. PutsStart (g.P.Port.history c.args.port.now) (g.P.Port.history c.take_signals_of.new.port) (only_noted x))
+    subst (λ x. PutsPrefix (g.P.Port.history c.args.port.now) (g.P.Port.history c.take_signals_of.new.port) (only_noted x))
     (signals_lines c.args.by.now.timescale c.args.by.now.tuned c.args.by.now.clock.0 c.args.pool.now c.args.names.now.entries (record { place = c.args.by.now.place; packet = view c.args.packet.now }) c.keep.new.pool _ _
     c.requires.kind c.requires.id c.in-Ok.ensures.exact c.in-Ok-keep.ensures.keeps.0 (c.in-Ok-keep.ensures.keeps.1 c.args.by.now.tuned.window) c.args.at c.requires.place)
     (c.in-Err-take_signals_of.ensures.put told)

@@ -1,6 +1,7 @@
 use Rattle.std.proofs.Common.{◌≡◌, ℕ, ◌+◌, ◌≤◌, List, length}
 use Rattle.std.specs.Prelude.{IsTrue}
 use Rattle.mmt_io.specs.History.{Event}
+use Rattle.mmt_io.specs.Port.{OnlySends}
 use Rattle.mmt_stream.specs.Driving.{Turn}
 use Rattle.mmt_stream.proofs.Framings.{AreBytes}
 use Rattle.mmt_stream.proofs.drive.serve.Given as goal
@@ -10,9 +11,7 @@ invariant-packets g l =
     let port = g.P.Port in
     let consumer = g.C.Consumer in
     record {
-      tells : port.tells l.port ≡ port.tells l.fn.port;
-      reads : port.read_faults l.port ≡ port.read_faults l.fn.port;
-      writes : port.write_faults l.fn.port ≤ port.write_faults l.port;
+      sends : OnlySends port.tells port.left port.read_faults port.write_faults l.fn.port l.port;
       size : l.cutter.place + length l.cutter.held + length l.rest ≡ l.fn.cutter.place + length l.fn.cutter.held + length l.fn.piece;
       bytes : AreBytes l.rest;
       same : consumer.meaning l.consumer ≡ consumer.meaning l.fn.consumer;

@@ -1,5 +1,5 @@
 use Rattle.std.proofs.Common.{ap, sym, subst, ◌∙◌}
-use Rattle.mmt_output.specs.Putting.{Puts, PutsStart, only_written}
+use Rattle.mmt_io.specs.Output.{Puts, PutsPrefix, only_written}
 use Rattle.mmt_output.specs.Records.{amount_of, records}
 use Rattle.mmt_output.proofs.Putting.{puts_nothing}
 use Rattle.mmt_recv.specs.Receiving.{Stands, State}
@@ -40,5 +40,5 @@ returns-in-Err-clause-put g c = λ told ps stood.
     let r = c.self.inside in
     let s : State = record { config = r.config; headers = r.hearer; tuned = r.tuned; pool = r.pool; names = r.names; handed = record { units = r.counts.units; bytes = r.counts.bytes }; losses = record { late = r.counts.late; repeat = r.counts.repeat; full = r.counts.full } } in
     let o : Stands s ps = rw c.self.view_is stood in
-    rw (sym c.self.view_is) (subst (λ ds. PutsStart (g.P.Port.history c.args.port.now) (g.P.Port.history c.hand_out.new.port) (only_written (records ds)))
+    rw (sym c.self.view_is) (subst (λ ds. PutsPrefix (g.P.Port.history c.args.port.now) (g.P.Port.history c.hand_out.new.port) (only_written (records ds)))
     (due_to s c.in-Some.tuned.clock.0 c.last_after-to.result.0 c.last_after-to.ensures.tick ∙ left_some s ps c.in-Some.tuned o c.in-Some.is c.last_after-to.ensures.small) (c.in-Err.ensures.put told))

@@ -1,6 +1,6 @@
 use Rattle.std.proofs.Common.{length, sym, subst}
 use Rattle.mmt_packet.specs.Spelling.{view}
-use Rattle.mmt_output.specs.Putting.{Put, Puts, PutsStart}
+use Rattle.mmt_io.specs.Output.{Put, Puts, PutsPrefix}
 use Rattle.mmt_output.proofs.Putting.{puts_nothing}
 use Rattle.mmt_tune.specs.Tuning.{Placed, heard_of, packets_of}
 use Rattle.mmt_recv.specs.Receiving.{Stands, State}
@@ -68,7 +68,7 @@ returns-in-Err-clause-put g c = λ told ps packet stood fits tlv.
     let o : Stands s ps = rw c.self.view_is stood in
     let p : Placed = record { place = c.args.place; packet = packet } in
     rw (sym c.self.view_is)
-    (subst (λ x. PutsStart (g.P.Port.history c.args.port.now) (g.P.Port.history c.tell.new.port) x) (more_refused s.config ps p c.in-Refused.at c.in-Refused.why (c.in-Refused.ensures.heard (packets_of ps) packet fits tlv o.heard)) (c.in-Err.ensures.put told))
+    (subst (λ x. PutsPrefix (g.P.Port.history c.args.port.now) (g.P.Port.history c.tell.new.port) x) (more_refused s.config ps p c.in-Refused.at c.in-Refused.why (c.in-Refused.ensures.heard (packets_of ps) packet fits tlv o.heard)) (c.in-Err.ensures.put told))
 
 pub returns-in-Packet-clause-places : goal.returns-in-Packet-clause-places
 returns-in-Packet-clause-places g c = λ ps packet stood fits tlv.

@@ -1,6 +1,6 @@
 use Rattle.std.proofs.Common.{◌≡◌, Some, ap, sym, subst, ◌∙◌}
 use Rattle.mmt_packet.specs.Spelling.{view}
-use Rattle.mmt_output.specs.Putting.{Put}
+use Rattle.mmt_io.specs.Output.{Put}
 use Rattle.mmt_tune.specs.Tuning.{HeardAt, heard_as, history}
 use Rattle.mmt_recv.proofs.Over.{more_tuned, over_clock, over_holds, over_ok, values_more}
 use Rattle.mmt_recv.proofs.receiver.Receiver.take_any.Goals as goal

@@ -26,7 +26,7 @@ returns-in-Err-take_packet-clause-put g c = λ told session holds before.
     rw (sym c.self.view_is)
     (starts_next _ _ _ _ _ _ _ (handed_lines s c.args.tuned.params session h c.args.tuned.clock.0 c.advance-clock.result.0 o before c.advance-clock.ensures)
     (notes_now s.config c.args.tuned.params session h c.advance_to.new.pool c.advance_to.new.names c.advance-clock.result.0 n)
-    (e.put told) (c.in-Err-take_packet.ensures.put (rw e.tells told)))
+    (e.put told) (c.in-Err-take_packet.ensures.put (rw e.sends.telling told)))
 
 pub returns-clause-tuned : goal.returns-clause-tuned
 returns-clause-tuned g c = λ session before.
@@ -56,7 +56,7 @@ returns-clause-put g c = λ told session holds before.
     rw (sym c.self.view_is)
     (puts_next _ _ _ _ _ _ _ (handed_lines s c.args.tuned.params session h c.args.tuned.clock.0 c.advance-clock.result.0 o before c.advance-clock.ensures)
     (notes_now s.config c.args.tuned.params session h c.advance_to.new.pool c.advance_to.new.names c.advance-clock.result.0 n)
-    (e.put told) (c.in-Ok-take_packet.ensures.put (rw e.tells told)))
+    (e.put told) (c.in-Ok-take_packet.ensures.put (rw e.sends.telling told)))
 
 pub invariant_of-self : goal.invariant_of-self
 invariant_of-self g c =

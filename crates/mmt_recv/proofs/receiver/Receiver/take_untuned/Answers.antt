@@ -1,6 +1,6 @@
 use Rattle.std.proofs.Common.{◌≡◌, ◌∷◌, Some, None, sym, subst, ◌∙◌}
 use Rattle.mmt_packet.specs.Spelling.{view}
-use Rattle.mmt_output.specs.Putting.{Put, Puts, PutsStart}
+use Rattle.mmt_io.specs.Output.{Put, Puts, PutsPrefix}
 use Rattle.mmt_tune.specs.Tuning.{HeardAt, history, tuned, values_by}
 use Rattle.mmt_recv.proofs.Over.{fresh_clock, fresh_holds, more_tuned, more_untuned, over_ok, over_still, values_first}
 use Rattle.mmt_recv.proofs.receiver.Receiver.take_untuned.Goals as goal
@@ -42,4 +42,4 @@ returns-in-Err-clause-put g c = λ told hs o.
     let h : HeardAt = record { place = c.args.place; packet = view c.args.packet.now } in
     let values : c.tuning_values.result ≡ values_by c.args.self.config.assumed c.args.self.config.bound h.packet = rw (sym c.self.view_is) c.tuning_values.ensures in
     let is : tuned c.args.self.config (h ∷ hs) ≡ None = values_first c.args.self hs c.tuning_values.result h o c.requires.untuned values ∙ c.in-None.is in
-    subst (λ x. PutsStart (g.P.Port.history c.args.port.now) (g.P.Port.history c.note_untuned.new.port) x) (more_untuned c.args.self.config hs h is) (rw (sym c.self.view_is) (c.in-Err.ensures.put told))
+    subst (λ x. PutsPrefix (g.P.Port.history c.args.port.now) (g.P.Port.history c.note_untuned.new.port) x) (more_untuned c.args.self.config hs h is) (rw (sym c.self.view_is) (c.in-Err.ensures.put told))

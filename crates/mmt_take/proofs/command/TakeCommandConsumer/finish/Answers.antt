@@ -1,6 +1,6 @@
 use Rattle.std.proofs.Common.{◌≡◌, List, subst, ap, ◌∙◌}
 use Rattle.mmt_model.specs.Delivery.{newest_first}
-use Rattle.mmt_output.specs.Putting.{only_written, Puts, PutsStart}
+use Rattle.mmt_io.specs.Output.{only_written, Puts, PutsPrefix}
 use Rattle.mmt_tune.specs.Tuning.{Placed}
 use Rattle.mmt_recv.specs.Receiving.{State, Stands, summary_of}
 use Rattle.mmt_take.specs.Taking.{placed, line_of, last_records}
@@ -12,7 +12,7 @@ returns-in-Err-clause-finished g c = λ told packets stood.
     let ps : List Placed = placed (newest_first packets) in
     let before : Stands c.self.inside.receiver ps = rw c.self.view_is stood in
     finishes_part c.args.self.config packets _ _
-    (subst (λ (s : State). PutsStart (g.P.Port.history c.args.port.now) (g.P.Port.history c.finish.new.port) (only_written (last_records s.config ps))) c.self.view_is (c.in-Err.ensures.put told ps before))
+    (subst (λ (s : State). PutsPrefix (g.P.Port.history c.args.port.now) (g.P.Port.history c.finish.new.port) (only_written (last_records s.config ps))) c.self.view_is (c.in-Err.ensures.put told ps before))
 
 pub returns-in-Err-line-clause-finished : goal.returns-in-Err-line-clause-finished
 returns-in-Err-line-clause-finished g c = λ told packets stood.
@@ -29,7 +29,7 @@ returns-in-Ok-note-clause-finished g c = λ told packets stood.
     c.as_bytes.ensures.value ∙ (c.in-Ok-line.ensures ∙ ap line_of (c.in-Ok.ensures.summary ps before ∙ ap (λ (s : State). summary_of s.config ps) c.self.view_is)) in
     finishes c.args.self.config packets _ (g.P.Port.history c.finish.new.port) _ c.as_bytes.result.now
     (subst (λ (s : State). Puts (g.P.Port.history c.args.port.now) (g.P.Port.history c.finish.new.port) (only_written (last_records s.config ps))) c.self.view_is (c.in-Ok.ensures.put told ps before))
-    line (c.in-Ok-note.ensures.bytes (rw c.finish.ensures.tells told))
+    line (c.in-Ok-note.ensures.bytes (rw c.finish.ensures.sends.telling told))
 
 pub returns-clause-finished : goal.returns-clause-finished
 returns-clause-finished g c = λ told packets stood.
@@ -39,4 +39,4 @@ returns-clause-finished g c = λ told packets stood.
     c.as_bytes.ensures.value ∙ (c.in-Ok-line.ensures ∙ ap line_of (c.in-Ok.ensures.summary ps before ∙ ap (λ (s : State). summary_of s.config ps) c.self.view_is)) in
     finishes_start c.args.self.config packets _ (g.P.Port.history c.finish.new.port) _ c.as_bytes.result.now
     (subst (λ (s : State). Puts (g.P.Port.history c.args.port.now) (g.P.Port.history c.finish.new.port) (only_written (last_records s.config ps))) c.self.view_is (c.in-Ok.ensures.put told ps before))
-    line (c.in-Err-note.ensures.bytes (rw c.finish.ensures.tells told))
+    line (c.in-Err-note.ensures.bytes (rw c.finish.ensures.sends.telling told))

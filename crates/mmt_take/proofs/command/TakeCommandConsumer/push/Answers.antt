@@ -1,6 +1,6 @@
 use Rattle.std.proofs.Common.{List, sym, subst}
 use Rattle.mmt_model.specs.Delivery.{newest_first}
-use Rattle.mmt_output.specs.Putting.{Puts, PutsStart}
+use Rattle.mmt_io.specs.Output.{Puts, PutsPrefix}
 use Rattle.mmt_tune.specs.Tuning.{Placed}
 use Rattle.mmt_recv.specs.Receiving.{State, Stands, more}
 use Rattle.mmt_take.specs.Taking.{placed}
@@ -22,6 +22,6 @@ pub returns-in-Err-clause-pushed : goal.returns-in-Err-clause-pushed
 returns-in-Err-clause-pushed g c = λ told packets packet stood fits is at.
     let ps : List Placed = placed (newest_first packets) in
     let before : Stands c.self.inside.receiver ps = rw c.self.view_is stood in
-    let put = subst (λ (s : State). PutsStart (g.P.Port.history c.args.port.now) (g.P.Port.history c.push.new.port) (more s.config ps (record { place = c.args.place; packet = packet }))) c.self.view_is
+    let put = subst (λ (s : State). PutsPrefix (g.P.Port.history c.args.port.now) (g.P.Port.history c.push.new.port) (more s.config ps (record { place = c.args.place; packet = packet }))) c.self.view_is
     (c.in-Err.ensures.put told ps packet before fits is) in
     pushes_start c.args.self.config c.args.place packets packet _ _ at put
