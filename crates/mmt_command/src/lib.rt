@@ -14,5 +14,6 @@ mod tests;
 mod words;
 
 pub use flows::flow_of;
+pub use numbers::number_in;
 pub use take_words::TakeOptions;
 pub use words::{Command, command_of};

@@ -1,0 +1,14 @@
+pub mod Lasts
+pub mod MpuPlaces
+pub mod Expected
+pub mod Defaults
+pub mod Starting
+pub mod Walking
+pub mod Finds
+pub mod Premises
+pub mod Taking
+pub mod Surviving
+pub mod Counted
+pub mod Greatest
+pub mod Members
+pub mod LeastNamed
