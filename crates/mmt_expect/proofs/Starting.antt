@@ -78,3 +78,8 @@ pub of-tuned-list : (cast : Cast) (full_every : ℕ) (ds : List ℕ) → AreOf c
 unfolding tuned_places
 of-tuned-list cast full_every ds of =
     of-first cast.packets (tunes_at cast) (from_heard full_every ds) (subst (AreOf cast.packets) (sym (heard-first full_every ds)) (of-first cast.packets (is_heard full_every) ds of))
+
+-- places of a cast, one by one, are a list of them
+pub of-each : (packets : List Sent) (ds : List ℕ) → ((k : ℕ) → k < length ds → get_or ds k 0 < length packets) → AreOf packets ds
+of-each packets [] h = tt
+of-each packets (d ∷ ds) h = (h 0 (omega arith), of-each packets ds (λ k l. h (suc k) (omega arith)))

@@ -9,3 +9,6 @@ mod reaching;
 mod tuning;
 
 pub use counting::expected_units;
+
+#[cfg(test)]
+mod tests;
