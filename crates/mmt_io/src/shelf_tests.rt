@@ -299,6 +299,16 @@ fn a_file_that_has_become_shorter_or_longer_shows(rt: HostRuntime) -> Result<(),
     Ok(())
 }
 
+// Whether five bytes of a file are those of its own name, from a place on.
+fn gives_its_name(shelf: &mut RealShelf, name: &str, at: usize) -> bool {
+    let mut buf = [0; 5];
+    let count = shelf.read_at(name, at as u64, &mut buf);
+    match name.as_bytes().get(at..) {
+        Some(rest) => count == Ok(5) && rest.starts_with(&buf),
+        None => false,
+    }
+}
+
 #[test]
 fn nine_real_files_are_read_in_turn(rt: HostRuntime) -> Result<(), Fail> {
     let names = [
@@ -316,13 +326,11 @@ fn nine_real_files_are_read_in_turn(rt: HostRuntime) -> Result<(), Fail> {
         fs::write(&rt, name, name)?;
     }
     let mut shelf = RealShelf::new(rt);
-    let mut buf = [0; 5];
-    for at in [0, 5] {
-        for name in names {
-            assert_eq!(rt; read(&mut shelf, name, at, &mut buf), Ok(5));
-            let at = at as usize;
-            assert_eq!(rt; Some(&buf[..]), name.as_bytes().get(at..at + 5), "{name}");
-        }
+    for name in names {
+        assert!(rt; gives_its_name(&mut shelf, name, 0), "{name}");
+    }
+    for name in names {
+        assert!(rt; gives_its_name(&mut shelf, name, 5), "{name}");
     }
     for name in names {
         fs::remove_file(&rt, name)?;
