@@ -218,8 +218,11 @@ fn reads_that_go_on_from_one_another_are_few_reads_of_the_file(
     }
     assert_eq!(rt; file.reads.get(), 4, "three of 65,536 bytes, and the rest");
     assert_eq!(rt; file.given.get(), 200_000, "no byte is read twice");
-    assert_eq!(rt; ahead.read(&file, 198_800, &mut buf), Ok(1200));
-    assert!(rt; are_from(&buf[..1200], 198_800));
+    let mut last = [0; 1200];
+    assert_eq!(rt; ahead.read(&file, 198_800, &mut last), Ok(1200));
+    assert!(rt; are_from(&last, 198_800));
+    assert_eq!(rt; file.reads.get(), 4, "its last bytes are held");
+    assert_eq!(rt; ahead.read(&file, 200_000, &mut last), Ok(0));
     assert_eq!(rt; file.reads.get(), 5, "the end is asked for");
     Ok(())
 }
