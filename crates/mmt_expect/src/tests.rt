@@ -82,12 +82,7 @@ fn are_of(packets: &[Sent], list: &[u32]) -> bool
 }
 
 // How many units are expected of a list of deliveries.
-fn expected_of(
-    alloc: Global,
-    delay: &str,
-    signalling: &str,
-    list: &[u32],
-) -> Result<u64, Fail> {
+fn expected_of(alloc: Global, delay: &str, signalling: &str, list: &[u32]) -> Result<u64, Fail> {
     let programme = programme_of(alloc, delay, signalling)?;
     let cast = cast_for(alloc, &programme)?;
     if !are_of(cast.packets.as_slice(), list) {
