@@ -3,6 +3,8 @@
 
 #[cfg(test)]
 mod delivery_tests;
+#[cfg(test)]
+mod fault_tests;
 mod help;
 mod list;
 mod mux;

@@ -26,7 +26,7 @@ const PLAN: &str = r#"{"flow":"ff0e0000000000000000000000000101:51300",
 {"at":300,"from":3000,"length":500,"movie_fragment":1,"sample":2,"offset":0,"priority":0,"dependency":0}]}]}]}"#;
 
 // The shelf with the plan, one place of which is changed, and its file of so many bytes. These reads fail.
-fn shelf(
+pub fn shelf(
     alloc: Global,
     change: (&str, &str),
     length: usize,
