@@ -66,7 +66,20 @@ def shuffled(rng, data):
     return b''.join(packets) + rest
 
 
+def inside(rng, data):
+    """Bytes changed within packets, so that the packets can still be told apart."""
+    packets, rest = packets_of(data)
+    for _ in range(rng.choice([1, 1, 2, 8])):
+        if packets:
+            at = rng.randrange(len(packets))
+            reach = rng.choice([24, 24, 90, len(packets[at])])
+            packets[at] = packets[at][:4] + flipped(rng, packets[at][4:reach]) + packets[at][max(4, reach):]
+    return b''.join(packets) + rest
+
+
 def damaged(rng, data, others):
+    if rng.random() < 0.6:
+        return rng.choice([inside, shuffled, inside])(rng, inside(rng, data))
     for _ in range(rng.choice([1, 1, 2, 3])):
         how = rng.choice([flipped, flipped, cut, repeated, joined, shuffled])
         data = how(rng, data, others) if how is joined else how(rng, data)
@@ -101,8 +114,7 @@ def main():
     rng = random.Random(options.seed)
     example = json.load(open(os.path.join(EXAMPLES, 'two_units.json'), encoding='utf-8'))
     folder = tempfile.mkdtemp()
-    for name in os.listdir(EXAMPLES):
-        os.symlink(os.path.join(EXAMPLES, name), os.path.join(folder, name))
+    os.symlink(EXAMPLES, os.path.join(folder, 'examples'))
     counts, failed, longest = {}, 0, 0.0
 
     def run(words, data):
@@ -123,7 +135,7 @@ def main():
             print(f'{" ".join(words)}: {"no end" if done is None else done.returncode}, its input is in {name}')
         return done
 
-    small = subprocess.run([program, 'mux', 'two_units.json'], capture_output=True, cwd=folder, check=True).stdout
+    small = subprocess.run([program, 'mux', 'examples/two_units.json'], capture_output=True, cwd=folder, check=True).stdout
     plain = subprocess.run([program, 'expand'], input=small, capture_output=True, cwd=folder)
     streams = [small, open(os.path.join(EXAMPLES, 'two_units.tlv'), 'rb').read()]
     if plain.returncode == 0:
@@ -165,7 +177,7 @@ def main():
             run(['pace', 'plan', '--step', str(rng.choice([1, 10, 16000]))], b'')
         if 'trial' in known:
             open(os.path.join(folder, 'places'), 'wb').write(damaged(rng, b'0\n1\n2\n3\n', [b'2\n2\n7\n']))
-            run(['trial', rng.choice(['plan', 'two_units.json']), 'places'], b'')
+            run(['trial', rng.choice(['plan', 'examples/two_units.json']), 'places'], b'')
     total = sum(counts.values())
     for key in sorted(counts):
         print(f'{key}: {counts[key]}')

@@ -74,7 +74,7 @@ def main():
 
         def run(words, data, refused):
             env = dict(os.environ, LD_PRELOAD=library, REFUSED=str(refused), COUNTED=counted)
-            done = subprocess.run([program] + words, input=data, capture_output=True, cwd=EXAMPLES, env=env, timeout=120)
+            done = subprocess.run([program] + words, input=data, capture_output=True, cwd=top, env=env, timeout=120)
             return done.returncode, done.stdout, done.stderr
 
         lists = os.path.join(folder, 'list')
@@ -83,8 +83,8 @@ def main():
             (['list'], stream),
             (['peak', '--delay', '300', '--window', '1000', '--bound', '100000'], stream),
             (['take'], stream),
-            (['mux', 'two_units.json'], b''),
-            (['trial', 'two_units.json', lists], b''),
+            (['mux', 'examples/two_units.json'], b''),
+            (['trial', 'examples/two_units.json', lists], b''),
             (['make', '7'], b''),
             (['expand'], stream),
             (['squeeze', '--context', '1', '--full-every', '3'], None),
