@@ -1,6 +1,6 @@
 //! Which packets are kept.
 
-ghost use Rattle.std.specs.Prelude.{◌≡◌, ◌≤◌, ◌<◌, ◌^◌, true, filter, length};
+ghost use Rattle.std.specs.Prelude.{◌≡◌, ◌≤◌, ◌<◌, ◌^◌, true, [], filter, length};
 ghost use Rattle.mmt_pool.specs.Doing.{of_packet};
 ghost use Rattle.mmt_pool.specs.Holding.{held, is_in_window};
 ghost use Rattle.mmt_runs.specs.Reading.{heard};
@@ -40,6 +40,7 @@ pub(crate) fn keep(
     requires opened { (heard (of_packet packet.now)).is_opened ≡ true }
     requires short { length packet.now.payload.now < 2 ^ 31 }
     ensures told { UnlessNoMemory result (IsTold runs.new pool.new.kept names.now) }
+    ensures bound { pool.new.bound ≡ pool.old.bound }
     ensures keeps { Keeps delay clock.0 pool.old (of_packet packet.now) result pool.new }
 {
     let span = match pool.store(clock, delay, packet.payload, 0, packet) {
@@ -50,4 +51,28 @@ pub(crate) fn keep(
         Ok(()) => Ok(span),
         Err(_) => Err(NotStored::OutOfMemory),
     }
+}
+
+// Lets go of every packet whose timestamp is not after a tick, whatever was told of it.
+fn let_leave(pool: &mut Pool, clock: Tick)
+    ensures kept { pool.new.kept ≡ filter (is_in_window clock.0 0) pool.old.kept }
+    ensures bound { pool.new.bound ≡ pool.old.bound }
+{
+    'packets: while pool.expire_one(clock, 0).is_some() {}
+}
+
+/// Lets go of all packets, whatever was told of them: for a receiver that is used no more.
+///
+/// Half of all timestamps are not after tick 0, and the others not after tick 2^31.
+pub(crate) fn let_go(pool: &mut Pool, runs: &Runs, names: &Names)
+    ensures told { IsTold runs.now pool.new.kept names.now }
+    ensures kept { pool.new.kept ≡ [] }
+    ensures bound { pool.new.bound ≡ pool.old.bound }
+    ensures held { held pool.new.kept ≤ pool.new.bound }
+    ensures live { length names.now.entries ≤ 1024 }
+{
+    let _ = names.len();
+    let_leave(pool, Tick(0));
+    let_leave(pool, Tick(1 << 31));
+    let _ = pool.held();
 }

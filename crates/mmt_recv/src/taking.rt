@@ -88,6 +88,7 @@ fn take_media<P: Port>(
     ensures sends { OnlySends P.tells P.left P.read_faults P.write_faults port.old port.new }
     ensures cause { IsErrOf result Untold.WriteFault → Rose (P.write_faults port.old) (P.write_faults port.new) }
     ensures told { OnOk result (IsTold runs.new pool.new.kept names.now) }
+    ensures bound { pool.new.bound ≡ pool.old.bound }
     ensures takes { OnOk result
         (Takes (rules_at by.now pool.old.bound) pool.old names.now (packet_at by.now.place packet.now) pool.new names.now) }
     ensures outcome { IfOk result (λ o. answered o ≡
@@ -133,6 +134,7 @@ fn take_signals<P: Port>(
     ensures sends { OnlySends P.tells P.left P.read_faults P.write_faults port.old port.new }
     ensures cause { IsErrOf result Untold.WriteFault → Rose (P.write_faults port.old) (P.write_faults port.new) }
     ensures told { OnOk result (IsTold runs.new pool.new.kept names.new) }
+    ensures bound { pool.new.bound ≡ pool.old.bound }
     ensures takes { OnOk result
         (Takes (rules_at by.now pool.old.bound) pool.old names.old (packet_at by.now.place packet.now) pool.new names.new) }
     ensures outcome { IfOk result (λ o. answered o ≡
@@ -184,6 +186,7 @@ pub(crate) fn take_packet<P: Port>(
     ensures sends { OnlySends P.tells P.left P.read_faults P.write_faults port.old port.new }
     ensures cause { IsErrOf result Untold.WriteFault → Rose (P.write_faults port.old) (P.write_faults port.new) }
     ensures told { OnOk result (IsTold runs.new pool.new.kept names.new) }
+    ensures bound { pool.new.bound ≡ pool.old.bound }
     ensures takes { OnOk result
         (Takes (rules_at by.now pool.old.bound) pool.old names.old (packet_at by.now.place packet.now) pool.new names.new) }
     ensures outcome { IfOk result (λ o. answered o ≡

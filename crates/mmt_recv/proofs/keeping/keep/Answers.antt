@@ -2,6 +2,7 @@ use Rattle.std.proofs.Common.{subst}
 use Rattle.mmt_pool.specs.Doing.{of_packet}
 use Rattle.mmt_recv.specs.Keeping.{Keeps}
 use Rattle.mmt_recv.proofs.Answered.{keeps_of, opened_kind}
+use Rattle.mmt_recv.proofs.Gone.{bound_stays}
 use Rattle.mmt_recv.proofs.keeping.keep.Goals as goal
 
 pub store-requires-clause-kind : goal.store-requires-clause-kind
@@ -16,3 +17,12 @@ pub returns-in-Ok-added-clause-keeps : goal.returns-in-Ok-added-clause-keeps
 returns-in-Ok-added-clause-keeps c =
     subst (λ r. Keeps c.args.delay c.args.clock.0 c.args.pool.now (of_packet c.args.packet.now) r c.store.new.self) c.in-Ok.is
     (keeps_of c.args.delay c.args.clock.0 c.args.pool.now (of_packet c.args.packet.now) c.store.result c.store.new.self c.store.ensures.stores c.store.ensures.model c.requires.opened c.store.ensures.peak)
+
+pub returns-in-Err-clause-bound : goal.returns-in-Err-clause-bound
+returns-in-Err-clause-bound c = bound_stays c.args.pool.now c.args.clock.0 c.args.delay (of_packet c.args.packet.now) c.store.result c.store.new.self c.store.ensures.stores
+
+pub returns-in-Ok-added-clause-bound : goal.returns-in-Ok-added-clause-bound
+returns-in-Ok-added-clause-bound c = bound_stays c.args.pool.now c.args.clock.0 c.args.delay (of_packet c.args.packet.now) c.store.result c.store.new.self c.store.ensures.stores
+
+pub returns-in-Err-added-clause-bound : goal.returns-in-Err-added-clause-bound
+returns-in-Err-added-clause-bound c = bound_stays c.args.pool.now c.args.clock.0 c.args.delay (of_packet c.args.packet.now) c.store.result c.store.new.self c.store.ensures.stores
