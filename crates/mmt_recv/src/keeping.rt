@@ -1,8 +1,9 @@
 //! Which packets are kept.
 
-ghost use Rattle.std.specs.Prelude.{◌≡◌, ◌≤◌, ◌<◌, ◌^◌, true, [], filter, length};
+ghost use Rattle.std.specs.Prelude.{◌≡◌, ◌≤◌, ◌<◌, ◌^◌, true, false, [], None, filter, length};
 ghost use Rattle.mmt_pool.specs.Doing.{of_packet};
 ghost use Rattle.mmt_pool.specs.Holding.{held, is_in_window};
+ghost use Rattle.mmt_runs.specs.Index.{begun_by};
 ghost use Rattle.mmt_runs.specs.Reading.{heard};
 ghost use Rattle.mmt_runs.specs.Told.{IsTold};
 ghost use Rattle.mmt_recv.specs.Keeping.{Keeps, UnlessNoMemory};
@@ -28,6 +29,7 @@ pub(crate) fn expire(pool: &mut Pool, runs: &mut Runs, names: &Names, clock: Tic
 }
 
 /// Keeps a packet with an accepted payload, unless it is late, a repeat, or there is no room for it.
+/// `begins` is false only where no media unit may begin in it; the runs need no word of it then.
 pub(crate) fn keep(
     pool: &mut Pool,
     runs: &mut Runs,
@@ -35,10 +37,12 @@ pub(crate) fn keep(
     clock: Tick,
     delay: u32,
     packet: &Packet<'_>,
+    begins: bool,
 ) -> Result<Span, NotStored>
     requires told { IsTold runs.old pool.old.kept names.now }
     requires opened { (heard (of_packet packet.now)).is_opened ≡ true }
     requires short { length packet.now.payload.now < 2 ^ 31 }
+    requires shut { begins ≡ false → begun_by (heard (of_packet packet.now)).payload ≡ None }
     ensures told { UnlessNoMemory result (IsTold runs.new pool.new.kept names.now) }
     ensures bound { pool.new.bound ≡ pool.old.bound }
     ensures keeps { Keeps delay clock.0 pool.old (of_packet packet.now) result pool.new }
@@ -47,6 +51,9 @@ pub(crate) fn keep(
         Ok(span) => span,
         Err(reason) => return Err(reason),
     };
+    if !begins {
+        return Ok(span);
+    }
     match runs.added(pool, span, names) {
         Ok(()) => Ok(span),
         Err(_) => Err(NotStored::OutOfMemory),
