@@ -5,16 +5,12 @@ use Rattle.std.specs.List.{list_any}
 use Rattle.mmt_base.specs.declared.refused.Refused.{Refused}
 use Rattle.mmt_base.specs.Ticks.{is_after, plus}
 use Rattle.mmt_model.specs.Keeping.{Outcome}
-use Rattle.mmt_model.specs.Packets.{Payload}
 use Rattle.mmt_model.specs.Sorted.{insert_by}
-use Rattle.mmt_packet.specs.declared.packet.Kind.{Kind}
 use Rattle.mmt_packet.specs.declared.packet.Kind.TheVariants as kinds
-use Rattle.mmt_pool.specs.declared.types.Span.{Span}
 use Rattle.mmt_pool.specs.Doing.{span_of}
 use Rattle.mmt_pool.specs.Holding.{Holding, Kept, IsInOrder, held, is_at, is_before, packet_at}
 use Rattle.mmt_pool.specs.Outcome.{pool_outcome}
 use Rattle.mmt_times.specs.Known.{Known}
-use Rattle.mmt_mpu.specs.declared.types.MpuWhy.{MpuWhy}
 use Rattle.mmt_mpu.specs.Reading.{payload_of}
 use Rattle.mmt_mpu.specs.Spelling.{Value as Mpu}
 use Rattle.mmt_sig.specs.declared.head.SigWhy.{SigWhy}
