@@ -16,9 +16,9 @@ use mmt_stream::{Consumer, Halt};
 use std::alloc::{AllocError, Global};
 use std::marker::Model;
 
-/// Puts the heard packets of a stream into a buffer, and writes one line at the end.
+// What the command has made of the packets of a stream so far.
 #[derive(Drop)]
-pub struct PeakCommand {
+struct Seen {
     alloc: Global,
     flow: FlowChoice,
     hearer: Hearer,
@@ -26,7 +26,7 @@ pub struct PeakCommand {
     refused: u64,
 }
 
-impl Model for PeakCommand {
+impl Model for Seen {
     ghost use Rattle.mmt_peak.specs.Commanding.{PeakState};
 
     ghost Value = { PeakState };
@@ -52,19 +52,18 @@ fn line(alloc: Global, numbers: &BufferNumbers, refused: u64) -> Result<String, 
     )
 }
 
-impl PeakCommand {
+impl Seen {
     ghost use Rattle.mmt_peak.specs.Commanding.{HasSeen, numbers_in};
 
-    /// The command at the start of a stream, for a flow and a buffer of `params.bound` payload bytes,
-    /// with its window and delay in ticks.
-    pub fn new(alloc: Global, flow: FlowChoice, params: Params) -> Result<PeakCommand, OutOfMemory>
+    // What it is at the start of a stream.
+    fn new(alloc: Global, flow: FlowChoice, params: Params) -> Result<Seen, OutOfMemory>
         ensures flow { IfOk result (λ c. c.flow ≡ flow) }
         ensures params { IfOk result (λ c. c.buffer.params ≡ params) }
         ensures seen { IfOk result (λ c. HasSeen [] c) }
     {
         let hearer = Hearer::new(alloc)?;
         let buffer = Buffer::new(alloc, params)?;
-        Ok(PeakCommand {
+        Ok(Seen {
             alloc,
             flow,
             hearer,
@@ -98,6 +97,36 @@ impl PeakCommand {
     }
 }
 
+/// Puts the heard packets of a stream into a buffer, and writes one line at the end.
+#[derive(Drop)]
+pub struct PeakCommand {
+    // in a box, so that little is moved with each packet
+    seen: Box<Seen>,
+}
+
+impl Model for PeakCommand {
+    ghost use Rattle.mmt_peak.specs.Commanding.{PeakState};
+
+    ghost Value = { PeakState };
+
+    ghost view = { λ c. c.seen.value };
+}
+
+impl PeakCommand {
+    ghost use Rattle.mmt_peak.specs.Commanding.{HasSeen};
+
+    /// The command at the start of a stream, for a flow and a buffer of `params.bound` payload bytes,
+    /// with its window and delay in ticks.
+    pub fn new(alloc: Global, flow: FlowChoice, params: Params) -> Result<PeakCommand, OutOfMemory>
+        ensures flow { IfOk result (λ c. c.flow ≡ flow) }
+        ensures params { IfOk result (λ c. c.buffer.params ≡ params) }
+        ensures seen { IfOk result (λ c. HasSeen [] c) }
+    {
+        let seen = Box::new(alloc, Seen::new(alloc, flow, params)?)?;
+        Ok(PeakCommand { seen })
+    }
+}
+
 impl<P: Port> Consumer<P> for PeakCommand {
     ghost use Rattle.mmt_peak.specs.Commanding.{HasSeen};
     ghost use Rattle.mmt_peak.specs.PeakingGrows.{peaking_grows};
@@ -111,7 +140,7 @@ impl<P: Port> Consumer<P> for PeakCommand {
     ghost grows = { λ c. peaking_grows c.flow c.buffer.params };
 
     fn push(mut self, _port: &mut P, _place: u64, tlv: &[u8]) -> Result<Self, Halt> {
-        match self.next(tlv) {
+        match self.seen.next(tlv) {
             Ok(()) => Ok(self),
             Err(_) => Err(Halt::OutOfMemory),
         }
@@ -122,7 +151,7 @@ impl<P: Port> Consumer<P> for PeakCommand {
     }
 
     fn finish(self, port: &mut P) -> Result<(), Halt> {
-        let line = match self.last_line() {
+        let line = match self.seen.last_line() {
             Ok(line) => line,
             Err(_) => return Err(Halt::OutOfMemory),
         };

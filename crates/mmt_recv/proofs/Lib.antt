@@ -1,3 +1,5 @@
+pub mod Begun
+pub mod Gone
 pub mod Places
 pub mod Lines
 pub mod Heads

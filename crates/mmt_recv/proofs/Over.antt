@@ -1,6 +1,6 @@
 -- A heard packet more, tuned or not.
 use Rattle.std.proofs.Common.{◌≡◌, ℕ, List, [], ◌∷◌, Option, Some, None, refl, sym, ap, subst, ◌∙◌}
-use Rattle.std.specs.Prelude.{Result, Ok, Err, IfOk}
+use Rattle.std.specs.Prelude.{Result, Ok, Err, OnOk, ⊤}
 use Rattle.mmt_model.specs.declared.programmes.Params.{Params}
 use Rattle.mmt_model.specs.Packets.{Heard}
 use Rattle.mmt_tune.specs.declared.config.Config.{Config}
@@ -104,11 +104,11 @@ over_still s hs h o is none =
 
 -- ---- answers
 
-pub over_ok : (result : Result State Ended) (config : Config) (hs : List HeardAt) (h : HeardAt) (values : Params) → tuned config (h ∷ hs) ≡ Some values → IfOk result (λ next. next.config ≡ config)
-    → IfOk result (λ next. next.tuned ≡ Some (record { params = values; clock = record { 0 = clock_of (heard_as h.packet ∷ history config hs) } })) → IfOk result (λ next. Holds next (heard_as h.packet ∷ history config hs) values)
-    → IfOk result (λ next. IsOver next (h ∷ hs))
-over_ok (Ok next) config hs h values is same tunes holds = over_next config next hs h values same is tunes holds
-over_ok (Err e) config hs h values is same tunes holds = same
+pub over_ok : (result : Result ⊤ Ended) (next : State) (config : Config) (hs : List HeardAt) (h : HeardAt) (values : Params) → tuned config (h ∷ hs) ≡ Some values → next.config ≡ config
+    → OnOk result (next.tuned ≡ Some (record { params = values; clock = record { 0 = clock_of (heard_as h.packet ∷ history config hs) } })) → OnOk result (Holds next (heard_as h.packet ∷ history config hs) values)
+    → OnOk result (IsOver next (h ∷ hs))
+over_ok (Ok done) next config hs h values is same tunes holds = over_next config next hs h values same is tunes holds
+over_ok (Err e) next config hs h values is same tunes holds = tunes
 
 pub more_tuned : (config : Config) (hs : List HeardAt) (h : HeardAt) (values : Params) → tuned config (h ∷ hs) ≡ Some values
     → ◌≡◌ {A = Output} (record { written = records (handed_of config values (heard_as h.packet) (history config hs)); noted = lines_of (tuned_notes config values (history config hs) h) }) (heard_more config hs h)

@@ -1,6 +1,6 @@
 -- A TLV packet more of a stream.
 use Rattle.std.proofs.Common.{◌≡◌, ◌⊎◌, inl, inr, ℕ, ◌+◌, List, [], ◌∷◌, ◌++◌, Option, Some, None, refl, sym, ap, subst, ◌∙◌, append-nil}
-use Rattle.std.specs.Prelude.{Result, Ok, Err, IfOk}
+use Rattle.std.specs.Prelude.{Result, Ok, Err, OnOk, ⊤}
 use Rattle.std.proofs.lemmas.Grind.{flat_map-append}
 use Rattle.mmt_model.specs.Handing.{out}
 use Rattle.mmt_model.specs.declared.programmes.Params.{Params}
@@ -30,14 +30,14 @@ heard_with config ps p x is = ap (λ y. heard_at p.place y ++ heard_of config.fl
 
 -- ---- a packet that is heard
 
-pub stands_heard : (result : Result State Ended) (s : State) (ps : List Placed) (p : Placed) (m : Mmtp) (from : ℕ) (headers : List (Option Ip6Header)) → Hearing.Heard m from ≡ hearing s.config.flow (packets_of ps) p.packet
-    → IfOk result (λ next. next.config ≡ s.config) → IfOk result (λ next. next.headers ≡ headers) → HasHeard (packets_of (p ∷ ps)) headers
-    → IfOk result (λ next. IsOver next (record { place = p.place + from; packet = m } ∷ heard_of s.config.flow ps)) → IfOk result (λ next. Stands next (p ∷ ps))
-stands_heard (Ok next) s ps p m from headers is same kept heard over = record {
+pub stands_heard : (result : Result ⊤ Ended) (next s : State) (ps : List Placed) (p : Placed) (m : Mmtp) (from : ℕ) (headers : List (Option Ip6Header)) → Hearing.Heard m from ≡ hearing s.config.flow (packets_of ps) p.packet
+    → next.config ≡ s.config → next.headers ≡ headers → HasHeard (packets_of (p ∷ ps)) headers
+    → OnOk result (IsOver next (record { place = p.place + from; packet = m } ∷ heard_of s.config.flow ps)) → OnOk result (Stands next (p ∷ ps))
+stands_heard (Ok done) next s ps p m from headers is same kept heard over = record {
   heard = subst (λ x. HasHeard (packets_of (p ∷ ps)) x) (sym kept) heard;
   over = subst (λ x. IsOver next x) (heard_with s.config ps p (Hearing.Heard m from) is ∙ ap (λ k. heard_of k.flow (p ∷ ps)) (sym same)) over;
 }
-stands_heard (Err e) s ps p m from headers is same kept heard over = same
+stands_heard (Err e) next s ps p m from headers is same kept heard over = over
 
 pub more_heard : (config : Config) (ps : List Placed) (p : Placed) (m : Mmtp) (from : ℕ) → Hearing.Heard m from ≡ hearing config.flow (packets_of ps) p.packet
     → heard_more config (heard_of config.flow ps) (record { place = p.place + from; packet = m }) ≡ more config ps p

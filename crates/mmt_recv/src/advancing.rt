@@ -1,6 +1,6 @@
 //! The clock goes on: what is due is handed out, entries are forgotten, and packets leave the window.
 
-ghost use Rattle.std.specs.Prelude.{◌≡◌, ◌≤◌, filter, IsTrue, IsErr, IfOk, OnOk};
+ghost use Rattle.std.specs.Prelude.{◌≡◌, ◌≤◌, filter, IsTrue, IsErr, IfOk, OnOk, OnErr};
 ghost use Rattle.mmt_io.specs.Port.{OnlySends, Rose};
 ghost use Rattle.mmt_model.specs.Entries.{forget as forgotten};
 ghost use Rattle.mmt_io.specs.Output.{Writes};
@@ -44,6 +44,10 @@ fn hand_out_due<P: Port>(
 /// Takes the clock from one tick to another: hands out the units that are due, in their order, then
 /// forgets the entries of which the last due tick is passed, and then lets go of the packets that are
 /// out of the window.
+///
+/// # Errors
+///
+/// The port failed, and wrote a prefix of the records; nothing else has changed.
 pub(crate) fn advance_to<P: Port>(
     port: &mut P,
     pool: &mut Pool,
@@ -64,6 +68,7 @@ pub(crate) fn advance_to<P: Port>(
         (names.new ≡ record { entries = forgotten from.0 to.0 names.old.entries; sample_base = names.old.sample_base }) }
     ensures kept { OnOk result (pool.new.kept ≡ filter (is_in_window to.0 window) pool.old.kept) }
     ensures bound { OnOk result (pool.new.bound ≡ pool.old.bound) }
+    ensures unchanged { OnErr result ((pool.new ≡ pool.old) × (names.new ≡ names.old) × (runs.new ≡ runs.old)) }
     ensures peak { OnOk result (pool.new.peak ≡ pool.old.peak) }
     ensures held { OnOk result (held pool.new.kept ≤ pool.new.peak) }
 {

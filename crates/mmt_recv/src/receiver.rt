@@ -1,11 +1,12 @@
 //! The receiver.
 
-ghost use Rattle.std.specs.Prelude.{◌≡◌, ◌<◌, ◌≤◌, ◌^◌, ◌+◌, length, IsTrue, IsErrOf, IfOk};
+ghost use Rattle.std.specs.Prelude.{◌≡◌, ◌<◌, ◌≤◌, ◌^◌, ◌+◌, length, IsTrue, IsErrOf, IfOk, OnOk};
 ghost use Rattle.mmt_io.specs.Port.{OnlySends, Rose};
 ghost use Rattle.mmt_packet.specs.Spelling.{view as mmtp_of, Fits as MmtpFits};
 ghost use Rattle.mmt_recv.specs.Receiving.{IsBounded, Losses, with_outcome};
 
 use crate::advancing::advance_to;
+use crate::keeping::let_go;
 use crate::summary::{Ended, Summary, Tuned};
 use crate::taking::{Outcome, take_packet};
 use mmt_base::{OutOfMemory, advance};
@@ -116,34 +117,34 @@ impl Receiver {
 
     // Takes a heard packet at a place, from the one that tunes on.
     fn take_heard<P: Port>(
-        mut self,
+        &mut self,
         port: &mut P,
         place: u64,
         packet: &Packet<'_>,
         tuned: Tuned,
-    ) -> Result<Receiver, Ended>
+    ) -> Result<(), Ended>
         requires fits { MmtpFits (mmtp_of packet.now) }
         requires place { place < 2 ^ 63 + 2 ^ 17 }
         requires short { length packet.now.payload.now < 2 ^ 16 }
-        ensures config { IfOk result (λ next. next.config ≡ self.config) }
-        ensures headers { IfOk result (λ next. next.headers ≡ self.headers) }
+        ensures config { self.new.config ≡ self.old.config }
+        ensures headers { self.new.headers ≡ self.old.headers }
         ensures tuned { (session : List HeardPacket) →
             tuned.clock.0 ≡ before_of (heard_packet packet.now) session →
-            IfOk result (λ next. next.tuned ≡ Some (record {
+            OnOk result (self.new.tuned ≡ Some (record {
               params = tuned.params;
               clock = record { 0 = clock_of (heard_packet packet.now ∷ session) };
             })) }
-        ensures holds { (session : List HeardPacket) → Holds self session tuned.params →
+        ensures holds { (session : List HeardPacket) → Holds self.old session tuned.params →
             tuned.clock.0 ≡ before_of (heard_packet packet.now) session →
-            IfOk result (λ next. Holds next (heard_packet packet.now ∷ session) tuned.params) }
-        ensures bounded { IfOk result IsBounded }
+            OnOk result (Holds self.new (heard_packet packet.now ∷ session) tuned.params) }
+        ensures bounded { IsBounded self.new }
         ensures sends { OnlySends P.tells P.left P.read_faults P.write_faults port.old port.new }
         ensures cause { IsErrOf result Ended.WriteFault → Rose (P.write_faults port.old) (P.write_faults port.new) }
         ensures put { IsTrue (P.tells port.old) → (session : List HeardPacket) →
-            Holds self session tuned.params → tuned.clock.0 ≡ before_of (heard_packet packet.now) session →
+            Holds self.old session tuned.params → tuned.clock.0 ≡ before_of (heard_packet packet.now) session →
             Put (P.history port.old) (P.history port.new) (record {
-              written = records (handed_of self.config tuned.params (heard_packet packet.now) session);
-              noted = lines_of (tuned_notes self.config tuned.params session (packet_at place packet.now));
+              written = records (handed_of self.old.config tuned.params (heard_packet packet.now) session);
+              noted = lines_of (tuned_notes self.old.config tuned.params session (packet_at place packet.now));
             }) result }
     {
         let clock = advance(tuned.clock, packet.time);
@@ -176,36 +177,39 @@ impl Receiver {
             packet,
         ) {
             Ok(outcome) => outcome,
-            Err(untold) => return Err(ended(untold)),
+            Err(untold) => {
+                let_go(&mut self.pool, &self.runs, &self.names);
+                return Err(ended(untold));
+            }
         };
         self.tuned = Some(Tuned {
             params: tuned.params,
             clock,
         });
         self.counts = count(self.counts, handed, outcome);
-        Ok(self)
+        Ok(())
     }
 
     // Takes a heard packet at a place before tuning: it tunes, or something may be noted of it.
     fn take_untuned<P: Port>(
-        self,
+        &mut self,
         port: &mut P,
         place: u64,
         packet: &Packet<'_>,
-    ) -> Result<Receiver, Ended>
-        requires untuned { self.tuned ≡ None }
+    ) -> Result<(), Ended>
+        requires untuned { self.old.tuned ≡ None }
         requires fits { MmtpFits (mmtp_of packet.now) }
         requires place { place < 2 ^ 63 + 2 ^ 17 }
         requires short { length packet.now.payload.now < 2 ^ 16 }
-        ensures config { IfOk result (λ next. next.config ≡ self.config) }
-        ensures headers { IfOk result (λ next. next.headers ≡ self.headers) }
-        ensures over { (hs : List HeardAt) → IsOver self hs →
-            IfOk result (λ next. IsOver next (packet_at place packet.now ∷ hs)) }
-        ensures bounded { IfOk result IsBounded }
+        ensures config { self.new.config ≡ self.old.config }
+        ensures headers { self.new.headers ≡ self.old.headers }
+        ensures over { (hs : List HeardAt) → IsOver self.old hs →
+            OnOk result (IsOver self.new (packet_at place packet.now ∷ hs)) }
+        ensures bounded { IsBounded self.new }
         ensures sends { OnlySends P.tells P.left P.read_faults P.write_faults port.old port.new }
         ensures cause { IsErrOf result Ended.WriteFault → Rose (P.write_faults port.old) (P.write_faults port.new) }
-        ensures put { IsTrue (P.tells port.old) → (hs : List HeardAt) → IsOver self hs →
-            Put (P.history port.old) (P.history port.new) (heard_more self.config hs (packet_at place packet.now)) result }
+        ensures put { IsTrue (P.tells port.old) → (hs : List HeardAt) → IsOver self.old hs →
+            Put (P.history port.old) (P.history port.new) (heard_more self.old.config hs (packet_at place packet.now)) result }
     {
         match tuning_values(&self.config, packet) {
             Some(params) => {
@@ -215,32 +219,35 @@ impl Receiver {
                 };
                 self.take_heard(port, place, packet, tuned)
             }
-            None => match note_untuned(self.alloc, port, place, self.config.bound, packet) {
-                Ok(()) => Ok(self),
-                Err(untold) => Err(ended(untold)),
-            },
+            None => {
+                match note_untuned(self.alloc, port, place, self.config.bound, packet) {
+                    Ok(()) => {}
+                    Err(untold) => return Err(ended(untold)),
+                }
+                Ok(())
+            }
         }
     }
 
     // Takes a heard packet at a place, before tuning or from the packet that tunes on.
     fn take_any<P: Port>(
-        self,
+        &mut self,
         port: &mut P,
         place: u64,
         packet: &Packet<'_>,
-    ) -> Result<Receiver, Ended>
+    ) -> Result<(), Ended>
         requires fits { MmtpFits (mmtp_of packet.now) }
         requires place { place < 2 ^ 63 + 2 ^ 17 }
         requires short { length packet.now.payload.now < 2 ^ 16 }
-        ensures config { IfOk result (λ next. next.config ≡ self.config) }
-        ensures headers { IfOk result (λ next. next.headers ≡ self.headers) }
-        ensures over { (hs : List HeardAt) → IsOver self hs →
-            IfOk result (λ next. IsOver next (packet_at place packet.now ∷ hs)) }
-        ensures bounded { IfOk result IsBounded }
+        ensures config { self.new.config ≡ self.old.config }
+        ensures headers { self.new.headers ≡ self.old.headers }
+        ensures over { (hs : List HeardAt) → IsOver self.old hs →
+            OnOk result (IsOver self.new (packet_at place packet.now ∷ hs)) }
+        ensures bounded { IsBounded self.new }
         ensures sends { OnlySends P.tells P.left P.read_faults P.write_faults port.old port.new }
         ensures cause { IsErrOf result Ended.WriteFault → Rose (P.write_faults port.old) (P.write_faults port.new) }
-        ensures put { IsTrue (P.tells port.old) → (hs : List HeardAt) → IsOver self hs →
-            Put (P.history port.old) (P.history port.new) (heard_more self.config hs (packet_at place packet.now)) result }
+        ensures put { IsTrue (P.tells port.old) → (hs : List HeardAt) → IsOver self.old hs →
+            Put (P.history port.old) (P.history port.new) (heard_more self.old.config hs (packet_at place packet.now)) result }
     {
         match self.tuned {
             Some(tuned) => self.take_heard(port, place, packet, tuned),
@@ -308,8 +315,51 @@ impl Receiver {
     ///
     /// # Errors
     ///
+    /// The port failed, or there was no memory: the receiver is used no more then, and what it kept may
+    /// be gone. What was written and noted is a prefix of what belongs to the packet, and the records
+    /// that its clock made due come before anything that takes memory.
+    pub fn receive<P: Port>(&mut self, port: &mut P, place: u64, tlv: &[u8]) -> Result<(), Ended>
+        requires whole { IsPacket tlv.now }
+        requires bound { place < 2 ^ 63 }
+        ensures config { self.new.config ≡ self.old.config }
+        // It stands for the stream with the packet at its end.
+        ensures stands { (ps : List Placed) (packet : Tlv) → Stands self.old ps → Fits packet →
+            tlv.now ≡ spelling packet →
+            OnOk result (Stands self.new (record { place = place; packet = packet } ∷ ps)) }
+        // Its payload bytes are at most the bound, and at most 1,024 entries live.
+        ensures bounded { IsBounded self.new }
+        // Each note lies at the packet's first byte or after it, and at most directly after its last.
+        ensures places { (ps : List Placed) (packet : Tlv) → Stands self.old ps → Fits packet →
+            tlv.now ≡ spelling packet →
+            LieBetween place (place + length tlv.now)
+            (notes_of_packet self.old.config ps (record { place = place; packet = packet })) }
+        ensures sends { OnlySends P.tells P.left P.read_faults P.write_faults port.old port.new }
+        ensures cause { IsErrOf result Ended.WriteFault → Rose (P.write_faults port.old) (P.write_faults port.new) }
+        // What goes out is exactly what belongs to the packet, or a prefix of it.
+        ensures put { IsTrue (P.tells port.old) → (ps : List Placed) (packet : Tlv) → Stands self.old ps →
+            Fits packet → tlv.now ≡ spelling packet →
+            Put (P.history port.old) (P.history port.new)
+            (more self.old.config ps (record { place = place; packet = packet })) result }
+    {
+        match self.hearer.hear(&self.config.flow, tlv) {
+            Heard::Packet { packet, from } => self.take_any(port, place + from as u64, &packet),
+            Heard::NotOurs => Ok(()),
+            Heard::Refused { at, why } => {
+                match tell(self.alloc, port, place + at as u64, &Note::Hearing(why)) {
+                    Ok(()) => {}
+                    Err(untold) => return Err(ended(untold)),
+                }
+                Ok(())
+            }
+        }
+    }
+
+    /// Receives a packet as `receive` does, and gives the receiver back.
+    ///
+    /// # Errors
+    ///
     /// The port failed, or there was no memory: the receiver is gone. What was written and noted is a
-    /// start of what belongs to the packet, and the records that its clock made due come before
+    /// prefix of what belongs to the packet, and the records that its clock made due come before
     /// anything that takes memory.
     pub fn push<P: Port>(mut self, port: &mut P, place: u64, tlv: &[u8]) -> Result<Receiver, Ended>
         requires whole { IsPacket tlv.now }
@@ -320,25 +370,19 @@ impl Receiver {
             IfOk result (λ next. Stands next (record { place = place; packet = packet } ∷ ps)) }
         // Its payload bytes are at most the bound, and at most 1,024 entries live.
         ensures bounded { IfOk result IsBounded }
-        // Each note lies at the packet's first byte or behind it, and at most directly behind its last.
+        // Each note lies at the packet's first byte or after it, and at most directly after its last.
         ensures places { (ps : List Placed) (packet : Tlv) → Stands self ps → Fits packet → tlv.now ≡ spelling packet →
             LieBetween place (place + length tlv.now) (notes_of_packet self.config ps (record { place = place; packet = packet })) }
         ensures sends { OnlySends P.tells P.left P.read_faults P.write_faults port.old port.new }
         ensures cause { IsErrOf result Ended.WriteFault → Rose (P.write_faults port.old) (P.write_faults port.new) }
-        // What goes out is exactly what belongs to the packet, or a start of it.
+        // What goes out is exactly what belongs to the packet, or a prefix of it.
         ensures put { IsTrue (P.tells port.old) → (ps : List Placed) (packet : Tlv) → Stands self ps →
             Fits packet → tlv.now ≡ spelling packet →
             Put (P.history port.old) (P.history port.new) (more self.config ps (record { place = place; packet = packet })) result }
     {
-        match self.hearer.hear(&self.config.flow, tlv) {
-            Heard::Packet { packet, from } => self.take_any(port, place + from as u64, &packet),
-            Heard::NotOurs => Ok(self),
-            Heard::Refused { at, why } => {
-                match tell(self.alloc, port, place + at as u64, &Note::Hearing(why)) {
-                    Ok(()) => Ok(self),
-                    Err(untold) => Err(ended(untold)),
-                }
-            }
+        match self.receive(port, place, tlv) {
+            Ok(()) => Ok(self),
+            Err(ended) => Err(ended),
         }
     }
 

@@ -52,22 +52,37 @@ pub(crate) fn leave_out<P: Port>(
     }
 }
 
-ghost use Rattle.std.specs.Prelude.{true, Ok};
+ghost use Rattle.std.specs.Prelude.{true, false, None, Ok};
 ghost use Rattle.mmt_model.specs.Packets.{Payload};
 ghost use Rattle.mmt_packet.specs.Spelling.{view as mmtp_of, Fits as MmtpFits};
 ghost use Rattle.mmt_pool.specs.Holding.{held};
-ghost use Rattle.mmt_runs.specs.Reading.{heard};
+ghost use Rattle.mmt_mpu.specs.View.{view};
+ghost use Rattle.mmt_runs.specs.Index.{begun_by};
+ghost use Rattle.mmt_runs.specs.Reading.{heard, media_of};
 ghost use Rattle.mmt_runs.specs.Told.{IsTold};
 ghost use Rattle.mmt_recv.specs.Noting.{payload_place};
 ghost use Rattle.mmt_recv.specs.Taking.{Takes, packet_at, rules_at, outcome_by, notes_taken};
 
 use crate::keeping::keep;
 use mmt_base::Refused;
-use mmt_mpu::read_mpu;
+use mmt_model::Part;
+use mmt_mpu::{MpuPayload, read_mpu};
 use mmt_packet::{Kind, Packet, header_length};
 use mmt_pool::Pool;
 use mmt_runs::Runs;
 use mmt_times::Names;
+
+// Whether units may begin in a packet with this payload: it has whole data units, or a first part.
+fn may_begin(found: &MpuPayload<'_>) -> bool
+    ensures { result ≡ false → begun_by (media_of (Ok (view found.now))) ≡ None }
+{
+    match found.head().part {
+        Part::Whole => true,
+        Part::First => true,
+        Part::Middle => false,
+        Part::Last => false,
+    }
+}
 
 /// Takes a packet of kind MPU, of which the payload begins at a place.
 fn take_media<P: Port>(
@@ -88,6 +103,7 @@ fn take_media<P: Port>(
     ensures sends { OnlySends P.tells P.left P.read_faults P.write_faults port.old port.new }
     ensures cause { IsErrOf result Untold.WriteFault → Rose (P.write_faults port.old) (P.write_faults port.new) }
     ensures told { OnOk result (IsTold runs.new pool.new.kept names.now) }
+    ensures bound { pool.new.bound ≡ pool.old.bound }
     ensures takes { OnOk result
         (Takes (rules_at by.now pool.old.bound) pool.old names.now (packet_at by.now.place packet.now) pool.new names.now) }
     ensures outcome { IfOk result (λ o. answered o ≡
@@ -96,10 +112,13 @@ fn take_media<P: Port>(
         (rules_at by.now pool.old.bound) (map heard pool.old.kept) names.now.entries (packet_at by.now.place packet.now))) result }
 {
     match read_mpu(packet.payload) {
-        Ok(_) => match keep(pool, runs, names, by.clock, by.tuned.delay, packet) {
-            Ok(_) => Ok(Outcome::Stored),
-            Err(reason) => leave_out(port, by, reason),
-        },
+        Ok(found) => {
+            let begins = may_begin(&found);
+            match keep(pool, runs, names, by.clock, by.tuned.delay, packet, begins) {
+                Ok(_) => Ok(Outcome::Stored),
+                Err(reason) => leave_out(port, by, reason),
+            }
+        }
         Err(Refused { at: inner, why }) => {
             match tell(by.alloc, port, at + inner as u64, &Note::Mpu(why)) {
                 Ok(()) => Ok(Outcome::Unopened),
@@ -133,6 +152,7 @@ fn take_signals<P: Port>(
     ensures sends { OnlySends P.tells P.left P.read_faults P.write_faults port.old port.new }
     ensures cause { IsErrOf result Untold.WriteFault → Rose (P.write_faults port.old) (P.write_faults port.new) }
     ensures told { OnOk result (IsTold runs.new pool.new.kept names.new) }
+    ensures bound { pool.new.bound ≡ pool.old.bound }
     ensures takes { OnOk result
         (Takes (rules_at by.now pool.old.bound) pool.old names.old (packet_at by.now.place packet.now) pool.new names.new) }
     ensures outcome { IfOk result (λ o. answered o ≡
@@ -149,7 +169,8 @@ fn take_signals<P: Port>(
             };
         }
     };
-    let span = match keep(pool, runs, names, by.clock, by.tuned.delay, packet) {
+    // No media unit begins in signalling.
+    let span = match keep(pool, runs, names, by.clock, by.tuned.delay, packet, false) {
         Ok(span) => span,
         Err(reason) => return leave_out(port, by, reason),
     };
@@ -184,6 +205,7 @@ pub(crate) fn take_packet<P: Port>(
     ensures sends { OnlySends P.tells P.left P.read_faults P.write_faults port.old port.new }
     ensures cause { IsErrOf result Untold.WriteFault → Rose (P.write_faults port.old) (P.write_faults port.new) }
     ensures told { OnOk result (IsTold runs.new pool.new.kept names.new) }
+    ensures bound { pool.new.bound ≡ pool.old.bound }
     ensures takes { OnOk result
         (Takes (rules_at by.now pool.old.bound) pool.old names.old (packet_at by.now.place packet.now) pool.new names.new) }
     ensures outcome { IfOk result (λ o. answered o ≡

@@ -18,7 +18,8 @@ use std::marker::Model;
 #[derive(Drop)]
 pub struct TakeCommand {
     alloc: Global,
-    receiver: Receiver,
+    // in a box, so that little is moved with each packet
+    receiver: Box<Receiver>,
 }
 
 impl Model for TakeCommand {
@@ -26,7 +27,7 @@ impl Model for TakeCommand {
 
     ghost Value = { State };
 
-    ghost view = { λ c. c.receiver };
+    ghost view = { λ c. c.receiver.value };
 }
 
 // The last line of these numbers.
@@ -51,7 +52,7 @@ impl TakeCommand {
         ensures config { IfOk result (λ c. c.config ≡ config) }
         ensures stands { IfOk result (λ c. Stands c []) }
     {
-        let receiver = Receiver::new(alloc, config)?;
+        let receiver = Box::new(alloc, Receiver::new(alloc, config)?)?;
         Ok(TakeCommand { alloc, receiver })
     }
 }
@@ -77,10 +78,9 @@ impl<P: Port> Consumer<P> for TakeCommand {
 
     ghost grows = { λ c. taking_grows c.config };
 
-    fn push(self, port: &mut P, place: u64, tlv: &[u8]) -> Result<Self, Halt> {
-        let TakeCommand { alloc, receiver } = self;
-        match receiver.push(port, place, tlv) {
-            Ok(receiver) => Ok(TakeCommand { alloc, receiver }),
+    fn push(mut self, port: &mut P, place: u64, tlv: &[u8]) -> Result<Self, Halt> {
+        match self.receiver.receive(port, place, tlv) {
+            Ok(()) => Ok(self),
             Err(ended) => Err(halt_of(ended)),
         }
     }
@@ -91,7 +91,7 @@ impl<P: Port> Consumer<P> for TakeCommand {
 
     fn finish(self, port: &mut P) -> Result<(), Halt> {
         let TakeCommand { alloc, receiver } = self;
-        let summary = match receiver.finish(port) {
+        let summary = match Box::into_inner(receiver).finish(port) {
             Ok(summary) => summary,
             Err(_) => return Err(Halt::WriteFault),
         };

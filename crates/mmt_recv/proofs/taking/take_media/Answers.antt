@@ -2,6 +2,8 @@ use Rattle.std.proofs.Common.{sym}
 use Rattle.mmt_packet.specs.Spelling.{view}
 use Rattle.mmt_tune.specs.Tuning.{HeardAt}
 use Rattle.mmt_recv.specs.Taking.{rules_at}
+use Rattle.mmt_pool.specs.Doing.{of_packet}
+use Rattle.mmt_recv.proofs.Begun.{media_shut_by}
 use Rattle.mmt_recv.proofs.Taken.{left_put, left_takes, media_opened, media_passes, media_shut, media_silent, takes_media, takes_none, unopened}
 use Rattle.mmt_recv.proofs.taking.take_media.Goals as goal
 
@@ -38,3 +40,6 @@ pub returns-in-Ok-tell-clause-outcome : goal.returns-in-Ok-tell-clause-outcome
 returns-in-Ok-tell-clause-outcome g c =
     let h : HeardAt = record { place = c.args.by.now.place; packet = view c.args.packet.now } in
     sym (unopened (rules_at c.args.by.now c.args.pool.now.bound) _ h (media_shut h _ c.requires.kind c.in-Err.ensures.exact))
+
+pub keep-requires-clause-shut : goal.keep-requires-clause-shut
+keep-requires-clause-shut g c = λ e. media_shut_by (of_packet c.args.packet.now) _ c.requires.kind c.in-Ok.ensures.exact (c.may_begin-begins.ensures e)

@@ -3,6 +3,8 @@ use Rattle.mmt_packet.specs.Spelling.{view}
 use Rattle.mmt_tune.specs.Tuning.{HeardAt}
 use Rattle.mmt_io.specs.Output.{only_noted, Puts, PutsPrefix}
 use Rattle.mmt_recv.specs.Taking.{rules_at}
+use Rattle.mmt_pool.specs.Doing.{of_packet}
+use Rattle.mmt_recv.proofs.Begun.{signalling_shut}
 use Rattle.mmt_recv.proofs.Taken.{left_put, left_takes, signals_lines, signals_opened, signals_pass, signals_shut, takes_none, takes_signals, unopened}
 use Rattle.mmt_recv.proofs.taking.take_signals.Goals as goal
 
@@ -48,3 +50,6 @@ returns-in-Err-take_signals_of-clause-put g c = λ told.
     (signals_lines c.args.by.now.timescale c.args.by.now.tuned c.args.by.now.clock.0 c.args.pool.now c.args.names.now.entries (record { place = c.args.by.now.place; packet = view c.args.packet.now }) c.keep.new.pool _ _
     c.requires.kind c.requires.id c.in-Ok.ensures.exact c.in-Ok-keep.ensures.keeps.0 (c.in-Ok-keep.ensures.keeps.1 c.args.by.now.tuned.window) c.args.at c.requires.place)
     (c.in-Err-take_signals_of.ensures.put told)
+
+pub keep-requires-clause-shut : goal.keep-requires-clause-shut
+keep-requires-clause-shut g c = λ e. signalling_shut (of_packet c.args.packet.now) c.requires.kind

@@ -1,4 +1,4 @@
-use Rattle.std.proofs.Common.{◌≡◌, ◌<◌, ◌≤◌, ◌^◌, ◌+◌, length, IsTrue}
+use Rattle.std.proofs.Common.{◌≡◌, ◌<◌, ◌^◌, ◌+◌, length, IsTrue}
 use Rattle.std.specs.List.{All}
 use Rattle.mmt_io.specs.Port.{OnlySends}
 use Rattle.mmt_sig.specs.View.{messages_left}

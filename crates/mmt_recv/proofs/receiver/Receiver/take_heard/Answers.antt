@@ -58,8 +58,19 @@ returns-clause-put g c = λ told session holds before.
     (notes_now s.config c.args.tuned.params session h c.advance_to.new.pool c.advance_to.new.names c.advance-clock.result.0 n)
     (e.put told) (c.in-Ok-take_packet.ensures.put (rw e.sends.telling told)))
 
-pub invariant_of-self : goal.invariant_of-self
-invariant_of-self g c =
+pub invariant_of-self-in-Err-take_packet : goal.invariant_of-self-in-Err-take_packet
+invariant_of-self-in-Err-take_packet g c =
+    let e = c.in-Ok.ensures in
+    let i = c.self.invariant in (
+      c.let_go.ensures.told,
+      i.1,
+      c.let_go.ensures.bound ∙ (c.take_packet.ensures.bound ∙ (e.bound ∙ i.2)),
+      omega (arith, c.let_go.ensures.held, c.let_go.ensures.bound, c.take_packet.ensures.bound, e.bound, i.2),
+      c.let_go.ensures.live,
+    )
+
+pub invariant_of-self-2 : goal.invariant_of-self-2
+invariant_of-self-2 g c =
     let e = c.in-Ok.ensures in
     let t = c.in-Ok-take_packet.ensures.takes in
     let i = c.self.invariant in
@@ -73,4 +84,4 @@ invariant_of-self g c =
     )
 
 pub returns-clause-bounded : goal.returns-clause-bounded
-returns-clause-bounded g c = let i = invariant_of-self g c in record { bytes = i.3; live = i.4 }
+returns-clause-bounded g c = let i = invariant_of-self-2 g c in record { bytes = i.3; live = i.4 }

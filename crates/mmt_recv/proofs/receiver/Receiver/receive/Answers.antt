@@ -6,7 +6,7 @@ use Rattle.mmt_tune.specs.Tuning.{Placed, heard_of, packets_of}
 use Rattle.mmt_recv.specs.Receiving.{Stands, State}
 use Rattle.mmt_recv.proofs.Received.{more_heard, more_not_ours, more_refused, not_ours_same, over_headers, over_same, refused_same, stands_heard}
 use Rattle.mmt_recv.proofs.Places.{places_heard, places_not_ours, places_refused}
-use Rattle.mmt_recv.proofs.receiver.Receiver.push.Goals as goal
+use Rattle.mmt_recv.proofs.receiver.Receiver.receive.Goals as goal
 
 pub returns-in-Packet-clause-stands : goal.returns-in-Packet-clause-stands
 returns-in-Packet-clause-stands g c = λ ps packet stood fits tlv.
@@ -14,7 +14,7 @@ returns-in-Packet-clause-stands g c = λ ps packet stood fits tlv.
     let s : State = record { config = r.config; headers = r.hearer; tuned = r.tuned; pool = r.pool; names = r.names; handed = record { units = r.counts.units; bytes = r.counts.bytes }; losses = record { late = r.counts.late; repeat = r.counts.repeat; full = r.counts.full } } in
     let o : Stands s ps = rw c.self.view_is stood in
     let p : Placed = record { place = c.args.place; packet = packet } in
-    stands_heard c.take_any.result s ps p (view c.in-Packet.packet) c.in-Packet.from c.hear.new.self (c.in-Packet.ensures.heard (packets_of ps) packet fits tlv o.heard) c.take_any.ensures.config c.take_any.ensures.headers (c.in-Packet.ensures.next (packets_of ps) packet fits tlv o.heard)
+    stands_heard c.take_any.result c.take_any.new.self s ps p (view c.in-Packet.packet) c.in-Packet.from c.hear.new.self (c.in-Packet.ensures.heard (packets_of ps) packet fits tlv o.heard) c.take_any.ensures.config c.take_any.ensures.headers (c.in-Packet.ensures.next (packets_of ps) packet fits tlv o.heard)
     (c.take_any.ensures.over (heard_of s.config.flow ps) (over_headers s c.hear.new.self (heard_of s.config.flow ps) o.over))
 
 pub returns-in-Packet-clause-put : goal.returns-in-Packet-clause-put
