@@ -1,8 +1,13 @@
+pub mod AskedOnce
 pub mod Colons
 pub mod FlowTexts
+pub mod MakeWords
+pub mod Names
+pub mod OneWord
 pub mod OptionWords
 pub mod PeakWords
 pub mod Places
+pub mod PlanWords
 pub mod TakeGiven
 pub mod TakeWrong
 pub mod Wrong

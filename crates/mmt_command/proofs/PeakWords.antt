@@ -1,5 +1,5 @@
--- Where words are no command, by their places.
-use Rattle.std.proofs.Common.{◌≡◌, inl, inr, ℕ, ◌+◌, ◌<◌, ◌≤◌, ◌^◌, List, [], ◌∷◌, length, get_or, drop, refl, ap, sym, subst, ◌∙◌, arith, decimal}
+-- Where words that begin with `peak` are no command, by their places.
+use Rattle.std.proofs.Common.{◌≡◌, inl, inr, ℕ, ◌+◌, ◌<◌, ◌≤◌, ◌^◌, List, [], ◌∷◌, length, drop, refl, ap, sym, subst, ◌∙◌, arith, decimal}
 use Rattle.std.specs.Prelude.{codes}
 use Rattle.std.proofs.lemmas.Fmt.{decimal_injective}
 use Rattle.mmt_model.specs.declared.programmes.Flow.{Flow}
@@ -10,102 +10,15 @@ use Rattle.mmt_command.specs.Words.{IsWrongAt}
 use Rattle.mmt_command.specs.Numbers.{NoOption}
 use Rattle.mmt_command.specs.Flows.{flow_text, HasFlowRange, NoFlow}
 use Rattle.mmt_command.specs.Commands.{Asks, IsCommand, HasRanges, HasChoiceRange, peak_words, flow_words}
-use Rattle.mmt_command.specs.declared.words.Command.{Command}
 use Rattle.mmt_command.specs.declared.words.Command.TheVariants as command
 use Rattle.mmt_command.proofs.FlowTexts.{flow_text_once}
-use Rattle.mmt_command.proofs.TakeGiven.{take_once}
+use Rattle.mmt_command.proofs.Names.{asked_peak}
+use Rattle.mmt_command.proofs.Places.{word_of}
 use Rattle.mmt_command.proofs.Wrong.{wrong_behind}
-
--- the word at a place of two equal lists
-word_of : (k : ℕ) (xs ys : List (List ℕ)) → xs ≡ ys → get_or xs k [] ≡ get_or ys k []
-word_of k xs ys e = ap (λ x. get_or x k []) e
-
-differ : (xs ys : List (List ℕ)) → codes "list" ∷ xs ≡ codes "peak" ∷ ys → ⊥
-differ xs ys e = omega (arith, ap (λ x. get_or (get_or x 0 []) 0 0) e)
-
-list_no_take : (xs ys : List (List ℕ)) → codes "list" ∷ xs ≡ codes "take" ∷ ys → ⊥
-list_no_take xs ys e = omega (arith, ap (λ x. get_or (get_or x 0 []) 0 0) e)
-
-peak_no_take : (xs ys : List (List ℕ)) → codes "peak" ∷ xs ≡ codes "take" ∷ ys → ⊥
-peak_no_take xs ys e = omega (arith, ap (λ x. get_or (get_or x 0 []) 0 0) e)
-
-list_no_mux : (xs ys : List (List ℕ)) → codes "list" ∷ xs ≡ codes "mux" ∷ ys → ⊥
-list_no_mux xs ys e = omega (arith, ap (λ x. get_or (get_or x 0 []) 0 0) e)
-
-peak_no_mux : (xs ys : List (List ℕ)) → codes "peak" ∷ xs ≡ codes "mux" ∷ ys → ⊥
-peak_no_mux xs ys e = omega (arith, ap (λ x. get_or (get_or x 0 []) 0 0) e)
-
-take_no_mux : (xs ys : List (List ℕ)) → codes "take" ∷ xs ≡ codes "mux" ∷ ys → ⊥
-take_no_mux xs ys e = omega (arith, ap (λ x. get_or (get_or x 0 []) 0 0) e)
-
--- the first word
-nothing_is : IsCommand [] → ⊥
-nothing_is (command.List, is) = omega (arith, ap length is)
-nothing_is (command.Peak choice r, is) = omega (arith, ap length is.0)
-nothing_is (command.Take o, is) = omega (arith, ap length is.spelled)
-nothing_is (command.Mux, is) = omega (arith, ap length is.1)
-
-first_is : (word : List ℕ) (words more tail : List (List ℕ)) → words ≡ word ∷ more → IsCommand (word ∷ tail) → ((rest : List (List ℕ)) → words ≡ codes "list" ∷ rest → ⊥)
-    → ((rest : List (List ℕ)) → words ≡ codes "peak" ∷ rest → ⊥) → ((rest : List (List ℕ)) → words ≡ codes "take" ∷ rest → ⊥) → ((rest : List (List ℕ)) → words ≡ codes "mux" ∷ rest → ⊥) → ⊥
-first_is word words more tail e (command.List, is) list peak take mux = list more (e ∙ ap (λ x. x ∷ more) (word_of 0 _ _ is))
-first_is word words more tail e (command.Peak choice r, is) list peak take mux = peak more (e ∙ ap (λ x. x ∷ more) (word_of 0 _ _ is.0))
-first_is word words more tail e (command.Take o, is) list peak take mux = take more (e ∙ ap (λ x. x ∷ more) (word_of 0 _ _ is.spelled))
-first_is word words more tail e (command.Mux, is) list peak take mux = mux more (e ∙ ap (λ x. x ∷ more) (word_of 0 _ _ is.1))
-
-pub no_first : (words : List (List ℕ)) → ((rest : List (List ℕ)) → words ≡ codes "list" ∷ rest → ⊥) → ((rest : List (List ℕ)) → words ≡ codes "peak" ∷ rest → ⊥) → ((rest : List (List ℕ)) → words ≡ codes "take" ∷ rest → ⊥)
-    → ((rest : List (List ℕ)) → words ≡ codes "mux" ∷ rest → ⊥) → IsWrongAt IsCommand words 0
-no_first words list peak take mux = wrong_behind IsCommand [] words (codes "list" ∷ [], (command.List, refl)) (λ e c. nothing_is c) (λ w more tail e c. first_is w words more tail e c list peak take mux)
-
--- a word behind `list`
-list_alone : (word : List ℕ) (words : List (List ℕ)) → IsCommand (codes "list" ∷ word ∷ words) → ⊥
-list_alone word words (command.List, is) = omega (arith, ap length is)
-list_alone word words (command.Peak choice r, is) = differ _ _ is.0
-list_alone word words (command.Take o, is) = list_no_take _ _ is.spelled
-list_alone word words (command.Mux, is) = list_no_mux _ _ is.1
-
-pub after_list : (words : List (List ℕ)) → (words ≡ [] → ⊥) → IsWrongAt IsCommand (codes "list" ∷ words) 1
-after_list words some = wrong_behind IsCommand (codes "list" ∷ []) words ([], (command.List, refl)) (λ e c. some e) (λ w more tail e c. list_alone w tail c)
-
--- the words of `mux`
-mux_inside : (words : List (List ℕ)) → IsCommand (codes "mux" ∷ words) → length words ≡ 1
-mux_inside words (command.List, is) = absurd (list_no_mux _ _ (sym is))
-mux_inside words (command.Peak choice r, is) = absurd (peak_no_mux _ _ (sym is.0))
-mux_inside words (command.Take o, is) = absurd (take_no_mux _ _ (sym is.spelled))
-mux_inside words (command.Mux, is) = omega (arith, ap length is.1)
-
-pub mux_alone : (words : List (List ℕ)) → words ≡ [] → IsWrongAt IsCommand (codes "mux" ∷ words) 1
-mux_alone words none =
-    subst (λ x. IsWrongAt IsCommand (codes "mux" ∷ x) 1) (sym none)
-    (wrong_behind IsCommand (codes "mux" ∷ []) [] ([] ∷ [], (command.Mux, ([], refl))) (λ e c. (let n = mux_inside [] c in omega (arith, n))) (λ w more tail e c. omega (arith, ap length e)))
-
-pub after_mux : (name : List ℕ) (words : List (List ℕ)) → (words ≡ [] → ⊥) → IsWrongAt IsCommand (codes "mux" ∷ name ∷ words) 2
-after_mux name words some =
-    wrong_behind IsCommand (codes "mux" ∷ name ∷ []) words ([], (command.Mux, (name, refl))) (λ e c. some e) (λ w more tail e c. (let n = mux_inside (name ∷ w ∷ tail) c in omega (arith, n)))
-
--- so two words that begin with it are `mux`, and others are wrong behind the first or the second
-pub mux_given : (words : List (List ℕ)) → words ≡ codes "mux" ∷ drop 1 words → length words ≡ 2 → Asks command.Mux words
-mux_given [] e l = absurd (omega arith)
-mux_given (a ∷ []) e l = absurd (omega arith)
-mux_given (a ∷ b ∷ []) e l = (b, e)
-mux_given (a ∷ b ∷ c ∷ more) e l = absurd (omega arith)
-
-pub mux_wrong_one : (words : List (List ℕ)) → words ≡ codes "mux" ∷ drop 1 words → length words < 2 → IsWrongAt IsCommand words 1
-mux_wrong_one [] e l = absurd (omega (arith, ap length e))
-mux_wrong_one (a ∷ []) e l = subst (λ x. IsWrongAt IsCommand x 1) (sym e) (mux_alone [] refl)
-mux_wrong_one (a ∷ b ∷ more) e l = absurd (omega arith)
-
-pub mux_wrong_two : (words : List (List ℕ)) → words ≡ codes "mux" ∷ drop 1 words → 3 ≤ length words → IsWrongAt IsCommand words 2
-mux_wrong_two [] e l = absurd (omega arith)
-mux_wrong_two (a ∷ []) e l = absurd (omega arith)
-mux_wrong_two (a ∷ b ∷ []) e l = absurd (omega arith)
-mux_wrong_two (a ∷ b ∷ c ∷ more) e l = subst (λ x. IsWrongAt IsCommand x 2) (sym e) (after_mux b (c ∷ more) (λ n. omega (arith, ap length n)))
 
 -- the words of `peak`
 peak_inside : (words : List (List ℕ)) → IsCommand (codes "peak" ∷ words) → (r : Params) × (choice : FlowChoice) × (codes "peak" ∷ words ≡ peak_words r (flow_words choice)) × HasRanges r × HasChoiceRange choice
-peak_inside words (command.List, is) = absurd (differ _ _ (sym is))
-peak_inside words (command.Peak choice r, is) = (r, choice, is.0, is.1, is.2)
-peak_inside words (command.Take o, is) = absurd (peak_no_take _ _ is.spelled)
-peak_inside words (command.Mux, is) = absurd (peak_no_mux _ _ is.1)
+peak_inside words c = let a = asked_peak words c in let p = a.2 in (a.1, a.0, p.0, p.1, p.2)
 
 completed : (r : Params) → HasRanges r → IsCommand (peak_words r [])
 completed r ranges = (command.Peak flow.Any r, (refl, ranges, tt))
@@ -210,24 +123,9 @@ same_params : (r s : Params) → r.bound ≡ s.bound → r.window ≡ s.window �
 same_params r s b w d =
     ap (λ x. record r { bound = x }) b ∙ (ap (λ x. record s { window = x; delay = r.delay }) w ∙ ap (λ x. record s { delay = x }) d)
 
--- the words ask for one command
-pub asks_once : (a b : Command) (words : List (List ℕ)) → Asks a words → Asks b words → a ≡ b
-asks_once command.List command.List words x y = refl
-asks_once command.List (command.Peak g s) words x y = absurd (differ _ _ (sym x ∙ y.0))
-asks_once command.List (command.Take b) words x y = absurd (list_no_take _ _ (sym x ∙ y.spelled))
-asks_once (command.Take a) command.List words x y = absurd (list_no_take _ _ (sym y ∙ x.spelled))
-asks_once (command.Take a) (command.Peak g s) words x y = absurd (peak_no_take _ _ (sym y.0 ∙ x.spelled))
-asks_once (command.Take a) (command.Take b) words x y = ap (λ k. command.Take k) (take_once a b words x y)
-asks_once command.Mux command.Mux words x y = refl
-asks_once command.Mux command.List words x y = absurd (list_no_mux _ _ (sym y ∙ x.1))
-asks_once command.Mux (command.Peak g s) words x y = absurd (peak_no_mux _ _ (sym y.0 ∙ x.1))
-asks_once command.Mux (command.Take b) words x y = absurd (take_no_mux _ _ (sym y.spelled ∙ x.1))
-asks_once command.List command.Mux words x y = absurd (list_no_mux _ _ (sym x ∙ y.1))
-asks_once (command.Peak f r) command.Mux words x y = absurd (peak_no_mux _ _ (sym x.0 ∙ y.1))
-asks_once (command.Take a) command.Mux words x y = absurd (take_no_mux _ _ (sym x.spelled ∙ y.1))
-asks_once (command.Peak f r) (command.Take b) words x y = absurd (peak_no_take _ _ (sym x.0 ∙ y.spelled))
-asks_once (command.Peak f r) command.List words x y = absurd (differ _ _ (sym y ∙ x.0))
-asks_once (command.Peak f r) (command.Peak g s) words x y =
+-- the words ask for one flow and one set of parameters
+pub peak_once : (f : FlowChoice) (r : Params) (g : FlowChoice) (s : Params) (words : List (List ℕ)) → Asks (command.Peak f r) words → Asks (command.Peak g s) words → command.Peak f r ≡ command.Peak g s
+peak_once f r g s words x y =
     let p = x.1 in let q = y.1 in
     let e : peak_words r (flow_words f) ≡ peak_words s (flow_words g) = sym x.0 ∙ y.0 in
     let same : r ≡ s = same_params r s (decimal_injective r.bound s.bound (omega arith) (omega arith) (word_of 6 _ _ e)) (decimal_injective r.window s.window (omega arith) (omega arith) (word_of 4 _ _ e))

@@ -10,15 +10,13 @@ use Rattle.mmt_command.specs.Commands.{IsCommand}
 use Rattle.mmt_command.specs.declared.options.Given.{Given}
 use Rattle.mmt_command.specs.declared.take_words.TakeOptions.{TakeOptions}
 use Rattle.mmt_command.specs.declared.words.Command.TheVariants as command
+use Rattle.mmt_command.proofs.Names.{asked_take}
 use Rattle.mmt_command.proofs.OptionWords.{rest_of, words_more, GoesOn, goes_from, not_again}
 use Rattle.mmt_command.proofs.TakeGiven.{asked}
 use Rattle.mmt_command.proofs.Wrong.{wrong_behind}
 
 take_inside : (words : List (List ℕ)) → IsCommand (codes "take" ∷ words) → (o : TakeOptions) × AsksTake o (codes "take" ∷ words)
-take_inside words (command.List, is) = absurd (omega (arith, ap (λ x. get_or (get_or x 0 []) 0 0) is))
-take_inside words (command.Peak choice r, is) = absurd (omega (arith, ap (λ x. get_or (get_or x 0 []) 0 0) is.0))
-take_inside words (command.Take o, is) = (o, is)
-take_inside words (command.Mux, is) = absurd (omega (arith, ap (λ x. get_or (get_or x 0 []) 0 0) is.1))
+take_inside words c = asked_take words c
 
 goes_on : (os : List TakeOption) (w : List ℕ) (tail : List (List ℕ)) → All HasOptionRange os → IsCommand (take_words os ++ w ∷ tail) → GoesOn os w tail
 goes_on os w tail x c =

@@ -34,12 +34,22 @@ HasChoiceRange (flow.One f) = HasFlowRange f
 abbrev pub mux_words : List ℕ → List (List ℕ)
 mux_words name = codes "mux" ∷ name ∷ []
 
+-- the words of `trial`, with the names of the plan's file and of that of a list of deliveries
+abbrev pub trial_words : List ℕ → List ℕ → List (List ℕ)
+trial_words plan list = codes "trial" ∷ plan ∷ list ∷ []
+
+-- the words of `make`, with the number that a programme and a channel come from
+abbrev pub make_words : ℕ → List (List ℕ)
+make_words seed = codes "make" ∷ decimal seed ∷ []
+
 -- the words are this command
 abbrev pub Asks : Command → List (List ℕ) → Type 0
 Asks command.List words = words ≡ codes "list" ∷ []
 Asks (command.Peak choice params) words = (words ≡ peak_words params (flow_words choice)) × HasRanges params × HasChoiceRange choice
 Asks (command.Take options) words = AsksTake options words
 Asks command.Mux words = (name : List ℕ) × (words ≡ mux_words name)
+Asks command.Trial words = (plan : List ℕ) × (list : List ℕ) × (words ≡ trial_words plan list)
+Asks (command.Make seed) words = (words ≡ make_words seed) × (seed < 2 ^ 16)
 
 -- the words are some command
 abbrev pub IsCommand : List (List ℕ) → Type 0

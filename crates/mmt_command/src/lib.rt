@@ -3,9 +3,13 @@
 
 mod assumed;
 mod flows;
+mod make_words;
 mod numbers;
 mod options;
 mod peak_words;
+#[cfg(test)]
+mod plan_tests;
+mod plan_words;
 #[cfg(test)]
 mod take_tests;
 mod take_words;

@@ -36,16 +36,11 @@ fn tells_each_command(rt: HostRuntime) -> Result<(), Fail> {
         port: 51300,
     });
     assert_eq!(rt; command_of(&one), Ok(Command::Peak { flow, params }));
-    let mux = words(alloc, "mux plan.json")?;
-    assert_eq!(rt; command_of(&mux), Ok(Command::Mux));
     Ok(())
 }
 
 // Words with blanks between them, and the place of the first wrong one.
-const WRONG: [(&str, u32); 40] = [
-    ("muxes plan.json", 0),
-    ("mux", 1),
-    ("mux plan.json more", 2),
+const WRONG: [(&str, u32); 37] = [
     ("peaks", 0),
     ("Peak", 0),
     ("peak", 1),

@@ -3,8 +3,10 @@ ghost use Rattle.std.specs.Prelude.{◌≡◌, ◌∷◌, [], drop, codes, IfOk,
 ghost use Rattle.mmt_command.specs.Words.{texts, IsWrongAt};
 ghost use Rattle.mmt_command.specs.Commands.{Asks, IsCommand};
 
+use crate::make_words::make_of;
 use crate::numbers::is_at;
 use crate::peak_words::peak_of;
+use crate::plan_words::{mux_of, trial_of};
 use crate::take_words::{TakeOptions, take_of};
 use mmt_model::{FlowChoice, Params};
 
@@ -19,6 +21,11 @@ pub enum Command {
     Take(TakeOptions),
     /// Reads a plan, whose file the second word names, and the plan's files, and writes the stream of its programme.
     Mux,
+    /// Reads a plan, whose file the second word names, the plan's files, and the list of deliveries in the file that the
+    /// third word names, and writes one line of what a receiver gave back of that delivery.
+    Trial,
+    /// Writes one line of what a receiver gave back of the programme and the delivery that come from a number.
+    Make { seed: u16 },
 }
 
 // The same of words that begin with `list`.
@@ -31,21 +38,6 @@ fn list_of(words: &[String]) -> Result<Command, u32>
         Ok(Command::List)
     } else {
         Err(1)
-    }
-}
-
-// The same of words that begin with `mux`.
-fn mux_of(words: &[String]) -> Result<Command, u32>
-    requires { texts words.now ≡ codes "mux" ∷ drop 1 (texts words.now) }
-    ensures command { IfOk result (λ command. Asks command (texts words.now)) }
-    ensures wrong { IfErr result (λ index. IsWrongAt IsCommand (texts words.now) index) }
-{
-    if words.len() == 2 {
-        Ok(Command::Mux)
-    } else if words.len() < 2 {
-        Err(1)
-    } else {
-        Err(2)
     }
 }
 
@@ -66,6 +58,12 @@ pub fn command_of(words: &[String]) -> Result<Command, u32>
     }
     if is_at(words, 0, "mux") {
         return mux_of(words);
+    }
+    if is_at(words, 0, "trial") {
+        return trial_of(words);
+    }
+    if is_at(words, 0, "make") {
+        return make_of(words);
     }
     Err(0)
 }
