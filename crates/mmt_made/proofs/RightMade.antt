@@ -189,20 +189,20 @@ names-are b = go (is_last b)
 
 names-if-right : (b : ℕ) (last : Bool) → b < 120 → is_last b ≡ last → All (IsKnown assets) (names_if last b) × AreRising (names_if last b)
 names-if-right b true l e = (
-  All-from_recursion (IsKnown assets) (names_if true b) ((name-known b l).0, (name-known b l).1, item-known, tt),
-  rising (names_if true b) ((inl (omega arith), inl (omega arith), tt), (inl (omega arith), tt), tt, tt),
+  All-from_recursion (IsKnown assets) (names_if true b) ((name-known b l).0, ((name-known b l).1, (item-known, tt))),
+  rising (names_if true b) ((inl (omega arith), (inl (omega arith), tt)), ((inl (omega arith), tt), (tt, tt))),
 )
 names-if-right b false l e =
     let more : b + 1 < 120 = omega (arith, eqb-false (b + 1) 120 e) in (
-      All-from_recursion (IsKnown assets) (names_if false b) ((name-known b l).0, (name-known (b + 1) more).0, (name-known b l).1, (name-known (b + 1) more).1, tt),
-      rising (names_if false b) ((inr (refl, omega arith), inl (omega arith), inl (omega arith), tt), (inl (omega arith), inl (omega arith), tt), (inr (refl, omega arith), tt), tt, tt),
+      All-from_recursion (IsKnown assets) (names_if false b) ((name-known b l).0, ((name-known (b + 1) more).0, ((name-known b l).1, ((name-known (b + 1) more).1, tt)))),
+      rising (names_if false b) ((inr (refl, omega arith), (inl (omega arith), (inl (omega arith), tt))), ((inl (omega arith), (inl (omega arith), tt)), ((inr (refl, omega arith), tt), (tt, tt)))),
     )
 
 names-right : (b : ℕ) → b < 120 → All (IsKnown assets) (names_at b) × AreRising (names_at b)
 names-right b l = subst (λ (names : List (ℕ × ℕ)). All (IsKnown assets) names × AreRising names) (sym (names-are b)) (names-if-right b (is_last b) l refl)
 
 block-right : (b : ℕ) → b < 120 → AllByRecursion (IsRightSignal 65536000 assets) (block b)
-block-right b l = ((omega arith, omega arith), ((omega arith, omega arith), (names-right b l).0, (names-right b l).1), tt)
+block-right b l = ((omega arith, omega arith), (((omega arith, omega arith), (names-right b l).0, (names-right b l).1), tt))
 
 block-long : (b : ℕ) → length (block b) ≡ 2
 block-long b = refl

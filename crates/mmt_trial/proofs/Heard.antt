@@ -1,15 +1,18 @@
 -- What a receiver was given of a recording.
-use Rattle.std.proofs.Common.{◌≡◌, ◌≢◌, ℕ, ◌+◌, ◌<◌, ◌≤◌, List, [], ◌∷◌, ◌++◌, length, map, take, get_or, refl, ap, sym, ◌∙◌, subst, arith}
+use Rattle.std.proofs.Common.{◌≡◌, ◌≢◌, ℕ, ◌+◌, ◌<◌, ◌≤◌, List, [], ◌∷◌, ◌++◌, length, map, take, get_or, Option, Some, None, refl, ap, ap₂, sym, ◌∙◌, subst, arith}
 use Rattle.std.specs.List.{All, AllByRecursion}
 use Rattle.std.proofs.lemmas.List.{take_more, take_all, append-nil, get_or-map}
 use Rattle.std.proofs.lemmas.List.Elements.{recursion_from_All}
 use Rattle.std.proofs.lemmas.List.Sums.{sum_by-cons}
+use Rattle.std.specs.Prelude.{slice_get}
+use Rattle.std.specs.Option.{unwrap_or}
+use Rattle.std.proofs.lemmas.Option.{get_or_from_slice_get, unwrap_or-slice_get}
 use Rattle.mmt_cast.proofs.Listing.{each-at}
+use Rattle.mmt_io.specs.History.Event.{Out}
 use Rattle.mmt_delivery.proofs.Carried.{get-map, length-map}
 use Rattle.mmt_model.proofs.Newest.{newest_more}
 use Rattle.mmt_model.specs.Delivery.{newest_first, onto}
 use Rattle.mmt_recv.specs.Receiving.{Stands}
-use Rattle.mmt_recv.specs.declared.receiver.Receiver.{Receiver}
 use Rattle.mmt_take.specs.Taking.{bytes_of, placed}
 use Rattle.mmt_tlv.specs.Cutting.{IsPacket}
 use Rattle.mmt_tlv.specs.Framing.{Fits, Packet, spelling}
@@ -60,3 +63,28 @@ next-given pieces list packets i place l is fit g =
 
 pub all-given : (packets : List Packet) (i : ℕ) → length packets ≤ i → take i packets ≡ packets
 all-given packets i le = take_all i packets le
+
+-- ---- the piece at a place
+
+pub piece-there : (pieces : List (List ℕ)) (place : ℕ) (bytes : List ℕ) → Some bytes ≡ slice_get pieces place → get_or pieces place [] ≡ bytes
+piece-there pieces place bytes e = get_or_from_slice_get pieces place bytes [] (sym e)
+
+pub piece-absent : (pieces : List (List ℕ)) (place : ℕ) → None ≡ slice_get pieces place → get_or pieces place [] ≡ []
+piece-absent pieces place e = sym (unwrap_or-slice_get pieces place []) ∙ ap (λ (o : Option (List ℕ)). unwrap_or o []) (sym e)
+
+pub no-packet : (packet : Packet) → [] ≡ spelling packet → ⊥
+no-packet packet e = omega (arith, ap (λ (b : List ℕ). length b) e)
+
+pub only : (bytes : List ℕ) (packet : Packet) → bytes ≡ spelling packet → bytes ≡ spelling packet ++ []
+only bytes packet e = e ∙ sym (append-nil (spelling packet))
+
+-- ---- what a port recorded
+
+pub recorded : (pieces : List (List ℕ)) (packets : List Packet) → map Out pieces ≡ map (λ p. Out (spelling p)) packets → pieces ≡ map spelling packets
+recorded [] [] e = refl
+recorded [] (p ∷ packets) e = absurd cc
+recorded (x ∷ pieces) [] e = absurd cc
+recorded (x ∷ pieces) (p ∷ packets) e =
+    let first : x ≡ spelling p = cc in
+    let later : map Out pieces ≡ map (λ (q : Packet). Out (spelling q)) packets = cc in
+    ap₂ (λ y ys. y ∷ ys) first (recorded pieces packets later)

@@ -1,3 +1,4 @@
-pub mod Recorded
+pub mod Counted
 pub mod Heard
+pub mod Recorded
 pub mod Taken

@@ -80,11 +80,11 @@ unfolding unit_at unit_bytes
 hold programme files right whole =
     All-from_get_or (λ (x : PlacedUnit). x.value.from + x.value.length ≤ length (files x.in_mpu.in_asset.file)) (all_units programme) no_placed_unit
     (λ u l.
-        let x : PlacedUnit = unit_at programme u in
-        unit-held (files x.in_mpu.in_asset.file) x.value.from x.value.length ((right-programmes-fit.right programme right).some u l)
-        (⊎_elim (λ (short : length (unit_bytes files x) < x.value.length). absurd (whole u x.value.length (length (unit_bytes files x)) (record { known = l; len = refl; got = refl; short = short })))
-        (λ (le : x.value.length ≤ length (unit_bytes files x)). le)
-        (cases_lt (length (unit_bytes files x)) x.value.length)))
+    let x : PlacedUnit = unit_at programme u in
+    unit-held (files x.in_mpu.in_asset.file) x.value.from x.value.length ((right-programmes-fit.right programme right).some u l)
+    (⊎_elim (λ (short : length (unit_bytes files x) < x.value.length). absurd (whole u x.value.length (length (unit_bytes files x)) (record { known = l; len = refl; got = refl; short = short })))
+    (λ (le : x.value.length ≤ length (unit_bytes files x)). le)
+    (cases_lt (length (unit_bytes files x)) x.value.length)))
 
 pub sendable : (programme : Programme) (files : ℕ → List ℕ) (cast : Cast) → IsRight programme → refusal programme ≡ None → cast ≡ cast_of programme → fault cast ≡ None → AreWhole programme files → IsSendable programme files
 sendable programme files cast right none is admitted whole =

@@ -23,20 +23,24 @@ receiver_of p = record { bound = p.params.bound; flow = choice.One p.flow; sampl
 abbrev pub counts_of : Programme → (ℕ → List ℕ) → List ℕ → Summary
 counts_of p files delivery = summary_of (receiver_of p) (placed_of p files delivery)
 
+-- the numbers of a trial, from how many packets there are, how many units are expected, and what a receiver counts
+abbrev pub put_together : Programme → ℕ → ℕ → ℕ → Summary → Tried
+put_together p sent delivered expected s = record {
+  sent = sent;
+  delivered = delivered;
+  units = s.units;
+  expected = expected;
+  bytes = s.bytes;
+  peak = s.peak;
+  bound = p.params.bound;
+  late = s.late;
+  repeat = s.repeat;
+  full = s.full;
+}
+
 -- the numbers of a trial of a delivery: how many packets the cast and the delivery have; what a receiver of the programme counts of the delivery; how many units are expected of it; and the programme's buffer size
 abbrev pub tried : Programme → (ℕ → List ℕ) → List ℕ → Tried
-tried p files delivery = record {
-  sent = length (cast_of p).packets;
-  delivered = length delivery;
-  units = (counts_of p files delivery).units;
-  expected = length (expected_of p files delivery);
-  bytes = (counts_of p files delivery).bytes;
-  peak = (counts_of p files delivery).peak;
-  bound = p.params.bound;
-  late = (counts_of p files delivery).late;
-  repeat = (counts_of p files delivery).repeat;
-  full = (counts_of p files delivery).full;
-}
+tried p files delivery = put_together p (length (cast_of p).packets) (length delivery) (length (expected_of p files delivery)) (counts_of p files delivery)
 
 -- all expected units came out, the buffer held them, and no packet was without room
 pub record KeepsBound (t : Tried) : Type 0 where

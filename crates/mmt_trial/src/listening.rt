@@ -65,6 +65,20 @@ fn give(listening: Listening, tlv: &[u8]) -> Result<Listening, OutOfMemory>
     }
 }
 
+/// Gives a receiver the packet at a place of a recording, where there is one.
+fn give_at(listening: Listening, sent: &Recording, place: u32) -> Result<Listening, OutOfMemory>
+    requires at { listening.at < 2 ^ 62 }
+    ensures config { IfOk result (λ next. next.receiver.config ≡ listening.receiver.config) }
+    ensures at { IfOk result (λ next. next.at ≤ listening.at + 65539) }
+    ensures given { (packets : List Packet) (packet : Packet) → WasGiven listening packets → Fits packet →
+        get_or sent.now place [] ≡ spelling packet → IfOk result (λ next. WasGiven next (packet ∷ packets)) }
+{
+    match packet_at(sent, place) {
+        Some(tlv) => give(listening, tlv),
+        None => Ok(listening),
+    }
+}
+
 /// Gives a new receiver the packets of a recording at these places, in their order, and answers what it counted up to the
 /// end of the stream. A place without a packet is left out.
 ///
@@ -90,12 +104,9 @@ pub fn listen(
     };
     let mut listening = Listening { receiver, at: 0 };
     for place in list {
-        match packet_at(sent, *place) {
-            Some(tlv) => match give(listening, tlv) {
-                Ok(next) => listening = next,
-                Err(_) => return Err(OutOfMemory),
-            },
-            None => {}
+        match give_at(listening, sent, *place) {
+            Ok(next) => listening = next,
+            Err(_) => return Err(OutOfMemory),
         }
     }
     match listening.receiver.finish(&mut Sink) {

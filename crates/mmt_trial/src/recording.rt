@@ -56,9 +56,10 @@ impl Recording {
         }
         let to = self.bytes.len();
         match self.spans.push(Span { from, to }) {
-            Ok(()) => Ok(()),
-            Err(_) => Err(OutOfMemory),
+            Ok(()) => {}
+            Err(_) => return Err(OutOfMemory),
         }
+        Ok(())
     }
 
     /// The piece at a place, counted from 0, where there is one.

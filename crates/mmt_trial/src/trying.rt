@@ -11,16 +11,17 @@ ghost use Rattle.mmt_send.specs.Files.{files_on};
 ghost use Rattle.mmt_send.specs.Held.{AreWhole};
 ghost use Rattle.mmt_sent.specs.Stream.{stream};
 ghost use Rattle.mmt_tlv.specs.Framing.{spelling};
-ghost use Rattle.mmt_trial.specs.Trials.{KeepsBound, TrialEnds, counts_of, receiver_of, tried};
+ghost use Rattle.mmt_trial.specs.Trials.{KeepsBound, TrialEnds, put_together, receiver_of, tried};
 
 use crate::listening::listen;
 use crate::recording::Recording;
 use mmt_admit::Admitted;
 use mmt_base::OutOfMemory;
 use mmt_expect::expected_units;
+use mmt_headline::programmes_received::{programmes_are_received, receivers_have_room};
 use mmt_io::Shelf;
 use mmt_model::{FlowChoice, List, Programme};
-use mmt_recv::Config;
+use mmt_recv::{Config, Summary};
 use mmt_send::{SendEnd, send};
 use std::alloc::Global;
 use thiserror::Error;
@@ -115,6 +116,31 @@ fn receiver_of(programme: &Programme) -> Config
     }
 }
 
+/// The numbers of a trial.
+fn put_together(
+    programme: &Programme,
+    sent: u32,
+    delivered: u32,
+    expected: u64,
+    counts: &Summary,
+) -> Tried
+    ensures numbers { result ≡ put_together programme.now sent delivered expected counts.now }
+    ensures small { expected < 2 ^ 64 }
+{
+    Tried {
+        sent,
+        delivered,
+        units: counts.units,
+        expected,
+        bytes: counts.bytes,
+        peak: counts.peak,
+        bound: programme.params.bound,
+        late: counts.late,
+        repeat: counts.repeat,
+        full: counts.full,
+    }
+}
+
 /// Sends the whole admitted cast of a right programme into memory, and gives a receiver of the programme the packets at the
 /// places of a list, in its order: what came out, what is expected of the list, and what the buffer held at most. Each place
 /// is below the number of packets of the cast, and the list has fewer than 2^32. It takes the memory of the stream, and of
@@ -145,29 +171,23 @@ pub fn trial<H: Shelf>(
     ensures shelf { Stays (H.tells shelf.old) (H.tells shelf.new) (H.file shelf.old) (H.file shelf.new) (H.faults shelf.old)
         (H.faults shelf.new) }
 {
+    programmes_are_received();
+    receivers_have_room();
+    let whole = cast.cast();
+    let list = deliveries.as_slice();
     let sent = match record(alloc, programme, cast, shelf) {
         Ok(sent) => sent,
         Err(end) => return Err(end),
     };
-    let list = deliveries.as_slice();
     let counts = match listen(alloc, receiver_of(programme), &sent, list) {
         Ok(counts) => counts,
         Err(_) => return Err(TrialEnd::OutOfMemory),
     };
-    let expected = match expected_units(alloc, programme, cast.cast(), list) {
+    let expected = match expected_units(alloc, programme, whole, list) {
         Ok(expected) => expected,
         Err(_) => return Err(TrialEnd::OutOfMemory),
     };
-    Ok(Tried {
-        sent: cast.cast().packets.len() as u32,
-        delivered: list.len() as u32,
-        units: counts.units,
-        expected,
-        bytes: counts.bytes,
-        peak: counts.peak,
-        bound: programme.params.bound,
-        late: counts.late,
-        repeat: counts.repeat,
-        full: counts.full,
-    })
+    let sent = whole.packets.len() as u32;
+    let delivered = list.len() as u32;
+    Ok(put_together(programme, sent, delivered, expected, &counts))
 }

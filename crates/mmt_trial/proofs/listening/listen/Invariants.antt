@@ -7,7 +7,7 @@ use Rattle.mmt_trial.proofs.listening.listen.Given as goal
 
 abbrev pub invariant-loop-place : goal.invariant-loop-place
 invariant-loop-place l = record {
-  config : l.listening.receiver.config ≡ l.config;
+  config : l.listening.receiver.config ≡ l.fn.config;
   at : l.listening.at ≤ 65539 * l.place-index;
   given : (packets : List Packet) → All Fits packets → AreGiven l.sent l.list packets → WasGiven l.listening (newest_first (take l.place-index packets));
 }
