@@ -40,7 +40,7 @@ copies-few n place = go (place % 50 == (7 * n) % 50) (place % 20 == 10)
     go false true = omega arith
     go false false = omega arith
 
-of-each : (packets : List Sent) (list : List ℕ) → AllByRecursion (λ (d : ℕ). d < length packets) list → AreOf packets list
+pub of-each : (packets : List Sent) (list : List ℕ) → AllByRecursion (λ (d : ℕ). d < length packets) list → AreOf packets list
 of-each packets [] h = tt
 of-each packets (d ∷ list) h = (h.0, of-each packets list h.1)
 
