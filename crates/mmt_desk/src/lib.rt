@@ -1,0 +1,16 @@
+//! Trials as commands: of a programme, a list of deliveries and files, and of a number from which all of them are made.
+#![tactic(auto)]
+
+mod listing;
+mod loading;
+mod making;
+mod planning;
+mod telling;
+mod trying;
+
+pub use making::make;
+pub use telling::tell;
+pub use trying::try_list;
+
+#[cfg(test)]
+mod tests;
