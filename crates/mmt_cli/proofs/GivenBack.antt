@@ -5,7 +5,7 @@ use Rattle.mmt_command.specs.Commands.{Asks, IsCommand}
 use Rattle.mmt_command.specs.Words.{IsWrongAt}
 use Rattle.mmt_command.specs.declared.take_words.TakeOptions.{TakeOptions}
 use Rattle.mmt_command.specs.declared.words.Command.TheVariants as command
-use Rattle.mmt_command.proofs.PeakWords.{asks_once}
+use Rattle.mmt_command.proofs.AskedOnce.{asks_once}
 use Rattle.mmt_model.specs.declared.programmes.FlowChoice.{FlowChoice}
 use Rattle.mmt_model.specs.declared.programmes.Params.{Params}
 use Rattle.mmt_stream.specs.Streaming.{Does}

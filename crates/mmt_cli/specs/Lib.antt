@@ -8,3 +8,4 @@ pub mod Promise
 pub mod SentBack
 pub mod Statuses
 pub mod Takes
+pub mod Trying

@@ -1,5 +1,7 @@
 -- The statuses of the program, which are this project's own.
 use Rattle.std.specs.Prelude.{ℕ, Result, Ok, Err}
+use Rattle.mmt_io.specs.declared.halt.Halt.{Halt}
+use Rattle.mmt_io.specs.declared.halt.Halt.TheVariants as halts
 use Rattle.mmt_mux.specs.declared.ends.MuxEnd.{MuxEnd}
 use Rattle.mmt_mux.specs.declared.ends.MuxEnd.TheVariants as muxes
 use Rattle.mmt_stream.specs.declared.end.StreamEnd.{StreamEnd}
@@ -16,7 +18,7 @@ status_of (end.Broken kind place) = status.Broken kind place
 status_of end.OutOfMemory = status.OutOfMemory
 status_of end.TooLong = status.TooLong
 
--- the status of `mux`
+-- the status of `mux` and `trial`
 abbrev pub status_of_mux : MuxEnd → Status
 status_of_mux (muxes.Refused reason place) = status.PlanRefused reason place
 status_of_mux (muxes.NotAdmitted refusal) = status.NotAdmitted refusal
@@ -24,7 +26,17 @@ status_of_mux muxes.ReadFault = status.ReadFault
 status_of_mux muxes.WriteFault = status.WriteFault
 status_of_mux muxes.OutOfMemory = status.OutOfMemory
 
--- the status of a run of `mux`, which is done where it does not end before
+-- the status of a call that only writes
+abbrev pub status_of_halt : Halt → Status
+status_of_halt halts.WriteFault = status.WriteFault
+status_of_halt halts.OutOfMemory = status.OutOfMemory
+
+-- the status of a run of `make`, which is done where it does not end before
+abbrev pub status_of_make : Result (Unit {0}) Halt → Status
+status_of_make (Ok x) = status.Done
+status_of_make (Err halt) = status_of_halt halt
+
+-- the status of a run of `mux` or `trial`, which is done where it does not end before
 abbrev pub status_of_run : Result (Unit {0}) MuxEnd → Status
 status_of_run (Ok x) = status.Done
 status_of_run (Err end) = status_of_mux end

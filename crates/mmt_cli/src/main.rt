@@ -25,6 +25,9 @@ mod take;
 mod take_tests;
 #[cfg(test)]
 mod tests;
+mod trial;
+#[cfg(test)]
+mod trial_tests;
 #[cfg(test)]
 mod worked;
 #[cfg(test)]

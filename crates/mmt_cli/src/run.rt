@@ -1,12 +1,13 @@
 //! The top call: from the words of the command line to the status.
 ghost use Rattle.std.specs.Prelude.{◌≡◌, ℕ, ◌^◌, ◌≤◌, List, IsTrue};
 ghost use Rattle.mmt_command.specs.Words.{texts, IsWrongAt};
-ghost use Rattle.mmt_command.specs.Commands.{Asks, IsCommand, mux_words};
+ghost use Rattle.mmt_command.specs.Commands.{Asks, IsCommand, mux_words, trial_words};
 ghost use Rattle.mmt_cli.specs.Moments.{moment, faults};
 ghost use Rattle.mmt_cli.specs.GivingBack.{GivesBack};
 ghost use Rattle.mmt_cli.specs.Muxing.{Muxes};
 ghost use Rattle.mmt_cli.specs.Promise.{HasCauses, Promises};
 ghost use Rattle.mmt_cli.specs.Takes.{config_of};
+ghost use Rattle.mmt_cli.specs.Trying.{Trials};
 ghost use Rattle.mmt_command.specs.declared.take_words.TakeOptions.{TakeOptions};
 ghost use Rattle.mmt_command.specs.declared.words.Command.{Command};
 
@@ -15,6 +16,7 @@ use crate::mux::mux_within;
 use crate::peak::peak_within;
 use crate::status::Status;
 use crate::take::{configured, take_within};
+use crate::trial::{make_within, trial_within};
 use mmt_command::{Command, command_of};
 use mmt_headline::take_runs::take_gives_back;
 use mmt_io::{Port, Shelf};
@@ -29,7 +31,7 @@ pub fn run_within<P: Port, H: Shelf>(
     limit: u64,
 ) -> Status
     requires { limit ≤ 2 ^ 40 }
-    // Exactly where the words are no command the status says so, with the first wrong word, and nothing is touched.
+    // If and only if the words are no command the status says so, with the first wrong word, and nothing is touched.
     ensures usage { (index : ℕ) → result ≡ Status.Usage index →
         IsWrongAt IsCommand (texts words.now) index }
     ensures only_usage { (index : ℕ) → IsWrongAt IsCommand (texts words.now) index →
@@ -54,6 +56,14 @@ pub fn run_within<P: Port, H: Shelf>(
         (P.write_faults port.old))
         (moment (P.history port.new) (P.left port.new) (P.read_faults port.new)
         (P.write_faults port.new)) }
+    // `trial` writes the line of its plan and its list, or the first reason why there is none is the status.
+    ensures tries { IsTrue (P.tells port.old) → IsTrue (H.tells shelf.old) →
+        (plan list : List ℕ) → texts words.now ≡ trial_words plan list →
+        Trials (H.file shelf.old) plan list result
+        (moment (P.history port.old) (P.left port.old) (P.read_faults port.old)
+        (P.write_faults port.old))
+        (moment (P.history port.new) (P.left port.new) (P.read_faults port.new)
+        (P.write_faults port.new)) }
     // Of a near delivery of a programme `take` writes exactly the units whose packets and one naming table survived.
     ensures gives_back { IsTrue (P.tells port.old) → (options : TakeOptions) →
         Asks (Command.Take options) (texts words.now) →
@@ -71,6 +81,8 @@ pub fn run_within<P: Port, H: Shelf>(
             take_within(alloc, port, configured(&options), limit)
         }
         Ok(Command::Mux) => mux_within(alloc, words[1].as_str(), port, shelf),
+        Ok(Command::Trial) => trial_within(alloc, words[1].as_str(), words[2].as_str(), port, shelf),
+        Ok(Command::Make { seed }) => make_within(alloc, seed, port),
         Err(index) => Status::Usage { index },
     }
 }
@@ -82,7 +94,7 @@ pub fn run<P: Port, H: Shelf>(
     port: &mut P,
     shelf: &mut H,
 ) -> Status
-    // Exactly where the words are no command the status says so, with the first wrong word, and nothing is touched.
+    // If and only if the words are no command the status says so, with the first wrong word, and nothing is touched.
     ensures usage { (index : ℕ) → result ≡ Status.Usage index →
         IsWrongAt IsCommand (texts words.now) index }
     ensures only_usage { (index : ℕ) → IsWrongAt IsCommand (texts words.now) index →
@@ -103,6 +115,14 @@ pub fn run<P: Port, H: Shelf>(
     // `mux` writes the stream of its plan, or the first reason why it is not sent is the status.
     ensures sends { IsTrue (P.tells port.old) → IsTrue (H.tells shelf.old) → (name : List ℕ) →
         texts words.now ≡ mux_words name → Muxes (H.file shelf.old) name result
+        (moment (P.history port.old) (P.left port.old) (P.read_faults port.old)
+        (P.write_faults port.old))
+        (moment (P.history port.new) (P.left port.new) (P.read_faults port.new)
+        (P.write_faults port.new)) }
+    // `trial` writes the line of its plan and its list, or the first reason why there is none is the status.
+    ensures tries { IsTrue (P.tells port.old) → IsTrue (H.tells shelf.old) →
+        (plan list : List ℕ) → texts words.now ≡ trial_words plan list →
+        Trials (H.file shelf.old) plan list result
         (moment (P.history port.old) (P.left port.old) (P.read_faults port.old)
         (P.write_faults port.old))
         (moment (P.history port.new) (P.left port.new) (P.read_faults port.new)

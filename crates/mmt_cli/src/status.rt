@@ -3,6 +3,7 @@ ghost use Rattle.std.specs.Prelude.{◌≡◌};
 ghost use Rattle.mmt_cli.specs.Statuses.{status_of};
 
 use mmt_admit::NotAdmitted;
+use mmt_io::Halt;
 use mmt_mux::MuxEnd;
 use mmt_plan::{PlanPlace, Reason};
 use mmt_stream::{BrokenKind, StreamEnd};
@@ -58,6 +59,19 @@ impl From<MuxEnd> for Status {
             MuxEnd::ReadFault => Status::ReadFault,
             MuxEnd::WriteFault => Status::WriteFault,
             MuxEnd::OutOfMemory => Status::OutOfMemory,
+        }
+    }
+}
+
+impl From<Halt> for Status {
+    ghost use Rattle.mmt_cli.specs.Statuses.{status_of_halt};
+
+    ghost from_gives = { λ halt status. status ≡ status_of_halt halt };
+
+    fn from(halt: Halt) -> Status {
+        match halt {
+            Halt::WriteFault => Status::WriteFault,
+            Halt::OutOfMemory => Status::OutOfMemory,
         }
     }
 }

@@ -6,7 +6,7 @@ use Rattle.mmt_cli.specs.Promise.{Promises, HasCauses}
 use Rattle.mmt_command.specs.Words.{texts}
 use Rattle.mmt_cli.specs.declared.status.Status.TheVariants as status
 use Rattle.mmt_command.specs.declared.words.Command.TheVariants as command
-use Rattle.mmt_command.proofs.PeakWords.{asks_once}
+use Rattle.mmt_command.proofs.AskedOnce.{asks_once}
 use Rattle.mmt_command.proofs.TakeGiven.{take_once}
 use Rattle.mmt_command.proofs.Wrong.{wrong_once}
 use Rattle.mmt_cli.specs.GivingBack.{GivesBack}
