@@ -5,10 +5,12 @@ mod listing;
 mod loading;
 mod making;
 mod planning;
+mod running;
 mod telling;
 mod trying;
 
 pub use making::make;
+pub use running::run_trial;
 pub use telling::tell;
 pub use trying::try_list;
 
