@@ -1,6 +1,6 @@
 -- The made programme is a right one.
-use Rattle.std.proofs.Common.{◌≡◌, ℕ, ◌+◌, ◌*◌, ◌/◌, ◌%◌, ◌^◌, ◌<◌, ◌≤◌, suc, zero, Bool, true, false, cond, inl, inr, List, [], ◌∷◌, ◌++◌, map, length, get_or, arith, refl, ap, sym, ◌∙◌, subst}
-use Rattle.std.specs.List.{All, AllByRecursion, flat_map, sum_by}
+use Rattle.std.proofs.Common.{◌≡◌, ℕ, ◌+◌, ◌*◌, ◌/◌, ◌^◌, ◌<◌, ◌≤◌, Bool, true, false, cond, inl, inr, List, [], ◌∷◌, ◌++◌, map, length, arith, refl, ap, sym, ◌∙◌, subst}
+use Rattle.std.specs.List.{All, AllByRecursion, sum_by}
 use Rattle.std.proofs.lemmas.List.Elements.{All-from_recursion}
 use Rattle.std.proofs.lemmas.List.Sums.{sum_by-cons}
 use Rattle.std.proofs.lemmas.Bool.{eqb-false}
@@ -9,16 +9,12 @@ use Rattle.mmt_cast.proofs.Listing.{each-map_numbers}
 use Rattle.mmt_delivery.proofs.Carried.{length-map, length-range}
 use Rattle.mmt_frag.proofs.PartsJoined.{length-numbers}
 use Rattle.mmt_made.proofs.Lists.{different, each-flat, flat-long, sum-same}
-use Rattle.mmt_made.specs.Generator.{all_signals, assets, au_of, audio, audio_track, block, is_last, item, item_mpu, item_unit, made_programme, mpu_of, mpus_of, names_at, tick_at, unit_of, video, video_track}
+use Rattle.mmt_made.specs.Generator.{all_signals, assets, au_of, audio, audio_track, block, is_last, item, item_mpu, item_unit, made_programme, mpu_of, mpus_of, names_at, unit_of, video, video_track}
 use Rattle.mmt_made.specs.declared.tracks.Track.{Track}
 use Rattle.mmt_model.specs.Carrying.{numbers}
-use Rattle.mmt_model.specs.Right.{AreDifferent, AreRising, IsBefore, IsFileName, IsFrom, IsKnown, IsRight, IsRightAsset, IsRightAu, IsRightMpu, IsRightSignal, IsRightUnit, no_asset, units_of_asset}
-use Rattle.mmt_model.specs.declared.programmes.Asset.{Asset}
-use Rattle.mmt_model.specs.declared.programmes.Au.{Au}
+use Rattle.mmt_model.specs.Right.{AreDifferent, AreRising, IsBefore, IsFileName, IsKnown, IsRight, IsRightAsset, IsRightAu, IsRightMpu, IsRightSignal, IsRightUnit, units_of_asset}
 use Rattle.mmt_model.specs.declared.programmes.Mpu.{Mpu}
 use Rattle.mmt_model.specs.declared.programmes.Programme.{Programme}
-use Rattle.mmt_model.specs.declared.programmes.Signal.{Signal}
-use Rattle.mmt_model.specs.declared.programmes.Unit.{Unit as PlannedUnit}
 
 -- ---- tracks
 

@@ -10,5 +10,5 @@ returns-in-Ok-tell-clause-tells g c = λ t u. (c.in-Ok.tried, c.in-Ok.ensures.an
 pub returns-in-Err-WriteFault-clause-tells : goal.returns-in-Err-WriteFault-clause-tells
 returns-in-Err-WriteFault-clause-tells g c = λ t u. inr (c.in-Ok.tried, c.in-Ok.ensures.answer t, tt, c.in-Err-WriteFault.ensures.put u)
 
-pub returns-clause-tells : goal.returns-clause-tells
-returns-clause-tells g c = λ t u. inr (c.in-Ok.tried, c.in-Ok.ensures.answer t, tt, c.in-Err-OutOfMemory.ensures.put u)
+pub returns-in-Err-OutOfMemory-clause-tells : goal.returns-in-Err-OutOfMemory-clause-tells
+returns-in-Err-OutOfMemory-clause-tells g c = λ t u. inr (c.in-Ok.tried, c.in-Ok.ensures.answer t, tt, c.in-Err-OutOfMemory.ensures.put u)

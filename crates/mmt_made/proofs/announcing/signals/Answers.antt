@@ -1,4 +1,4 @@
-use Rattle.std.proofs.Common.{◌≡◌, ℕ, ◌+◌, ◌*◌, List, [], ◌∷◌, ◌++◌, ap, ap₂, refl, sym, ◌∙◌, append_assoc}
+use Rattle.std.proofs.Common.{ℕ, ◌*◌, List, [], ◌∷◌, ◌++◌, ap, sym, ◌∙◌, append_assoc}
 use Rattle.mmt_made.proofs.Lists.{flat-next, flat-none}
 use Rattle.mmt_made.specs.Generator.{block, tick_at}
 use Rattle.mmt_model.specs.declared.programmes.Signal.{Signal}
