@@ -1,0 +1,5 @@
+pub mod Deadlines
+pub mod Recast
+pub mod Asked
+pub mod Spanned
+pub mod Laws

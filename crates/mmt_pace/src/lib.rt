@@ -1,0 +1,18 @@
+//! The jobs of a cast, and the cast that is paced: one packet to a slot of a transmitter that sends at a
+//! fixed rate.
+#![tactic(auto)]
+
+mod jobs;
+mod laws;
+mod limits;
+mod recasting;
+#[cfg(test)]
+mod samples;
+mod spans;
+#[cfg(test)]
+mod tests;
+mod timing;
+
+pub use jobs::jobs_of;
+pub use laws::{casts_are_told, recasts_are_right};
+pub use recasting::paced;
