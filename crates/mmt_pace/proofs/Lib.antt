@@ -2,5 +2,12 @@ pub mod Minima
 pub mod Moved
 pub mod Reading
 pub mod Carried
-pub mod Recasting
+pub mod Again
 pub mod Told
+pub mod Lesser
+pub mod Deadlined
+pub mod Widening
+pub mod Retiming
+pub mod Asking
+pub mod Between
+pub mod Delivered

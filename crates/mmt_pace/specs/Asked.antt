@@ -1,6 +1,6 @@
 -- What is asked of a cast that is paced, and of the slots that are given to its packets (this project's rules).
-use Rattle.std.specs.Prelude.{◌≡◌, ℕ, ◌+◌, ◌<◌, ◌≤◌, ◌^◌, List, [], ◌∷◌, length, None}
-use Rattle.std.specs.List.{AllByRecursion}
+use Rattle.std.specs.Prelude.{◌≡◌, ℕ, ◌+◌, ◌<◌, ◌≤◌, ◌^◌, Bool, ◌==◌, List, [], ◌∷◌, length, None}
+use Rattle.std.specs.List.{AllByRecursion, IsDistinct}
 use Rattle.mmt_admit.specs.Faults.{IsReadable}
 use Rattle.mmt_cast.specs.Casting.{cast_of}
 use Rattle.mmt_cast.specs.Refusing.{refusal}
@@ -51,7 +51,10 @@ pub record AreGiven (packets : ℕ) (slots : Slots) (given : List ℕ) : Type 0 
   pub in_row : (n : ℕ) → n < packets → slot_of given n < slots.count
   pub own : (m n : ℕ) → m < packets → n < packets → slot_of given m ≡ slot_of given n → m ≡ n
 
+-- two packets have one timestamp
+abbrev pub have_one_tick : Sent → Sent → Bool
+have_one_tick p q = p.at.0 == q.at.0
+
 -- no two of these packets have one timestamp
 abbrev pub AreApart : List Sent → Type 0
-AreApart [] = Unit {0}
-AreApart (p ∷ ps) = AllByRecursion (λ (q : Sent). p.at.0 ≡ q.at.0 → ⊥) ps × AreApart ps
+AreApart packets = IsDistinct have_one_tick packets

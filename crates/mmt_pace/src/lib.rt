@@ -14,5 +14,8 @@ mod tests;
 mod timing;
 
 pub use jobs::jobs_of;
-pub use laws::{casts_are_told, recasts_are_right};
+pub use laws::{
+    casts_are_told, casts_can_be_paced, recast_programmes_are_delivered, recast_programmes_are_right,
+    recasts_are_right,
+};
 pub use recasting::paced;

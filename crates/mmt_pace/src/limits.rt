@@ -1,7 +1,6 @@
 //! Until when the packets of a cast may be sent.
 
-ghost use Rattle.std.specs.Prelude.{◌≡◌, ◌+◌, ◌<◌, ◌≤◌, ◌^◌, length, map, IfOk};
-ghost use Rattle.std.specs.List.{AllByRecursion};
+ghost use Rattle.std.specs.Prelude.{◌≡◌, ◌+◌, ◌<◌, ◌≤◌, ◌^◌, length, map, IfOk, All};
 ghost use Rattle.mmt_cast.specs.Casting.{least as least_among};
 ghost use Rattle.mmt_model.specs.Carrying.{copy_place, least_with, numbers};
 ghost use Rattle.mmt_pace.specs.Asked.{AreListed, CanBePaced, IsCarriedBy};
@@ -32,6 +31,7 @@ pub(crate) fn lesser(limit: u64, other: Option<u64>) -> u64
 }
 
 /// Until when a packet of a unit may be sent.
+#[tactic(auto, unfolding(crate::specs::Deadlines::unit_limit, mmt_model::specs::Carrying::sent_unit))]
 fn unit_limit(cast: &Cast, unit: u32) -> u64
     requires { unit < length cast.now.units }
     ensures { result ≡ limit_of_unit cast.now unit }
@@ -55,6 +55,7 @@ fn group_limit(cast: &Cast, first: u32, count: u32) -> u64
 }
 
 /// Until when a packet of a table copy that ends at a tick may be sent for an MPU that it names.
+#[tactic(auto, unfolding(crate::specs::Deadlines::name_limit, mmt_model::specs::Carrying::sent_mpu))]
 fn name_limit(cast: &Cast, last: LongTick, mpu: u32) -> u64
     requires known { mpu < length cast.now.mpus }
     requires last { last.0 < 2 ^ 60 }
@@ -72,7 +73,7 @@ fn name_limit(cast: &Cast, last: LongTick, mpu: u32) -> u64
 
 /// The least limit of the MPUs that a table copy names, where it names one.
 fn names_limit(cast: &Cast, last: LongTick, names: &[u32]) -> Option<u64>
-    requires known { AllByRecursion (λ m. m < length cast.now.mpus) names.now }
+    requires known { All (λ m. m < length cast.now.mpus) names.now }
     requires last { last.0 < 2 ^ 60 }
     ensures { result ≡ least_of (map (limit_of_name cast.now last.0) names.now) }
 {
@@ -131,6 +132,7 @@ fn copy_limit(cast: &Cast, limits: &[Option<u64>], at: LongTick, signal: u32) ->
 }
 
 /// Until when a packet may be sent for its own sake, by the limits of all table copies.
+#[tactic(auto, unfolding(crate::specs::Deadlines::own_limit, crate::specs::Deadlines::carried_limit))]
 pub(crate) fn own_limit(cast: &Cast, limits: &[Option<u64>], packet: &Sent) -> u64
     requires cast { CanBePaced cast.now }
     requires carried { IsCarriedBy cast.now packet.now.carries }

@@ -1,4 +1,4 @@
-use Rattle.mmt_pace.proofs.Recasting.{recasts-are-right}
+use Rattle.mmt_pace.proofs.Again.{recasts-are-right}
 use Rattle.mmt_pace.proofs.laws.recasts_are_right.Goals as goal
 
 pub returns : goal.returns
