@@ -1,5 +1,5 @@
 -- The cast of a right programme may be paced.
-use Rattle.std.proofs.Common.{◌≡◌, ℕ, ◌+◌, ◌<◌, ◌≤◌, Bool, true, false, ◌==◌, cond, List, [], ◌∷◌, ◌++◌, map, length, get_or, arith, refl, ap, sym, ◌∙◌, None}
+use Rattle.std.proofs.Common.{◌≡◌, ℕ, ◌+◌, ◌<◌, ◌≤◌, suc, Bool, true, false, ◌==◌, cond, List, [], ◌∷◌, ◌++◌, map, length, get_or, arith, refl, ap, sym, ◌∙◌, None}
 use Rattle.std.specs.List.{AllByRecursion}
 use Rattle.mmt_admit.specs.Faults.{CopyFits, IsReadable}
 use Rattle.mmt_cast.proofs.Copies.{table-copied}
@@ -83,11 +83,11 @@ casts-can-be-paced programme right none =
 each-named : (mpus : ℕ) (packets : List Sent) (cs : List TableCopy) → ((c : ℕ) → c < length cs → CopyFits mpus (get_or cs c no_table_copy)) → AllByRecursion (NamesPlaces mpus) (map (copy_in_packets packets) cs)
 unfolding copy_in_packets
 each-named mpus packets [] h = tt
-each-named mpus packets (c ∷ cs) h = (by-recursion (λ m. m < mpus) c.names (h 0 (omega arith)).2, each-named mpus packets cs (λ j l. h (j + 1) (omega arith)))
+each-named mpus packets (c ∷ cs) h = (by-recursion (λ m. m < mpus) c.names (h 0 (omega arith)).2, each-named mpus packets cs (λ j l. h (suc j) (omega arith)))
   where
     by-recursion : (P : ℕ → Type 0) (ns : List ℕ) → ((k : ℕ) (d : ℕ) → k < length ns → P (get_or ns k d)) → AllByRecursion P ns
     by-recursion P [] all = tt
-    by-recursion P (n ∷ ns) all = (all 0 n (omega arith), by-recursion P ns (λ k d l. all (k + 1) d (omega arith)))
+    by-recursion P (n ∷ ns) all = (all 0 n (omega arith), by-recursion P ns (λ k d l. all (suc k) d (omega arith)))
 
 pub copies-named : (cast : Cast) (packets : List Sent) → CanBePaced cast → AllByRecursion (NamesPlaces (length cast.mpus)) (map (copy_in_packets packets) cast.copies)
 unfolding table_copy

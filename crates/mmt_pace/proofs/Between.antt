@@ -29,13 +29,13 @@ none-yet f items e = e
 pub one-more : {X : Type 0} (f : ℕ → X) (n : ℕ) (items items' : List X) (x : X) → items ≡ made_to f n → items' ≡ items ++ x ∷ [] → x ≡ f n → items' ≡ made_to f (n + 1)
 one-more f n items items' x e push ex = let z : n ≡ 0 + n = omega arith in added-more f 0 n [] items items' x e push (ex ∙ ap f z)
 
+same-map : {X Y : Type 0} (f : ℕ → X → Y) (d : X) (xs : List X) (k j : ℕ) → map (λ i. f (0 + i) (get_or xs i d)) (numbers j k) ≡ map (λ i. f i (get_or xs i d)) (numbers j k)
+unfolding numbers
+same-map f d xs zero j = refl
+same-map f d xs (suc k) j = let z : 0 + j ≡ j = omega arith in ap₂ (λ y ys. y ∷ ys) (ap (λ i. f i (get_or xs j d)) z) (same-map f d xs k (j + 1))
+
 pub all-there : {X Y : Type 0} (f : ℕ → X → Y) (d : X) (xs : List X) (n : ℕ) (items : List Y) → n ≡ length xs → items ≡ made_to (λ i. f i (get_or xs i d)) n → items ≡ map_from f 0 xs
-all-there {X} {Y} f d xs n items en e = e ∙ (ap (made_to (λ i. f i (get_or xs i d))) en ∙ sym (by-places f xs 0 d ∙ same (length xs) 0))
-  where
-    same : (k j : ℕ) → map (λ i. f (0 + i) (get_or xs i d)) (numbers j k) ≡ map (λ i. f i (get_or xs i d)) (numbers j k)
-    unfolding numbers
-    same zero j = refl
-    same (suc k) j = let z : 0 + j ≡ j = omega arith in ap₂ (λ y ys. y ∷ ys) (ap (λ i. f i (get_or xs j d)) z) (same k (j + 1))
+all-there {X} {Y} f d xs n items en e = e ∙ (ap (made_to (λ i. f i (get_or xs i d))) en ∙ sym (by-places f xs 0 d ∙ same-map f d xs (length xs) 0))
 
 get-any : {X : Type 0} (xs : List X) (k : ℕ) (d e : X) → k < length xs → get_or xs k d ≡ get_or xs k e
 get-any [] k d e l = absurd (omega arith)

@@ -64,6 +64,26 @@ pub record AreItsPackets (has : Carries → Bool) (xs : List Sent) (i first coun
   pub all : (n : ℕ) → n < length xs → has (get_or xs n no_packet).carries ≡ true → (k : ℕ) × (k < count) × ((get_or xs n no_packet).packet_id ≡ i) × ((get_or xs n no_packet).number ≡ first + k)
   pub each : (k : ℕ) → k < count → (n : ℕ) × IsPacketAt xs n i (first + k) × (has (get_or xs n no_packet).carries ≡ true)
 
+from-numbers : (f : ℕ → ℕ) (z first count : ℕ) → IsIn z (map f (numbers first count)) → (k : ℕ) × (k < count) × (f (first + k) ≡ z)
+unfolding numbers
+from-numbers f z first zero is = absurd is
+from-numbers f z first (suc count) (inl e) = let y : first + 0 ≡ first = omega arith in (0, omega arith, ap f y ∙ e)
+from-numbers f z first (suc count) (inr is) =
+    let r = from-numbers f z (first + 1) count is in
+    let y : first + suc r.0 ≡ first + 1 + r.0 = omega arith in
+    (suc r.0, omega (arith, r.1), ap f y ∙ r.2)
+
+first-least : (packets : List Sent) (ns : List ℕ) → first_of_places packets ns ≡ least (map (sent_at packets) ns)
+unfolding first_of_places least
+first-least packets [] = refl
+first-least packets (n ∷ []) = refl
+first-least packets (n ∷ m ∷ ns) = ap (min (sent_at packets n)) (first-least packets (m ∷ ns))
+
+last-greatest : (packets : List Sent) (ns : List ℕ) → last_of_places packets ns ≡ greatest (map (sent_at packets) ns)
+unfolding last_of_places greatest
+last-greatest packets [] = refl
+last-greatest packets (n ∷ ns) = ap (max (sent_at packets n)) (last-greatest packets ns)
+
 -- their new ticks are those at their places in the new order
 module _ (ticks : ℕ → ℕ) (has : Carries → Bool) (xs : List Sent) (i first count : ℕ) (told : AreTold xs) (its : AreItsPackets has xs i first count) where
   their-ticks : List ℕ
@@ -91,32 +111,12 @@ module _ (ticks : ℕ → ℕ) (has : Carries → Bool) (xs : List Sent) (i firs
       let n = its.each k.0 k.1 in
       let e : ticks n.0 ≡ z = sym (tick-at n.0 k.0 n.1) ∙ k.2 in
       subst (λ y. IsIn y (ticks_with has (retimed ticks xs))) e (ticks-in has (retimed ticks xs) (moved ticks xs n.0) (moved-in ticks xs n.0 n.1.of) n.2)
-    where
-      from-numbers : (f : ℕ → ℕ) (z first count : ℕ) → IsIn z (map f (numbers first count)) → (k : ℕ) × (k < count) × (f (first + k) ≡ z)
-      unfolding numbers
-      from-numbers f z first zero is = absurd is
-      from-numbers f z first (suc count) (inl e) = let y : first + 0 ≡ first = omega arith in (0, omega arith, ap f y ∙ e)
-      from-numbers f z first (suc count) (inr is) =
-          let r = from-numbers f z (first + 1) count is in
-          let y : first + suc r.0 ≡ first + 1 + r.0 = omega arith in
-          (suc r.0, omega (arith, r.1), ap f y ∙ r.2)
 
   pub first-there : least (ticks_with has (retimed ticks xs)) ≡ first_of_places (sorted_at ticks xs) (map (place_of (sorted_at ticks xs) i) (numbers first count))
   first-there = same-least (ticks_with has (retimed ticks xs)) their-ticks ticks-there ticks-here ∙ sym (first-least (sorted_at ticks xs) (map (place_of (sorted_at ticks xs) i) (numbers first count)))
-    where
-      first-least : (packets : List Sent) (ns : List ℕ) → first_of_places packets ns ≡ least (map (sent_at packets) ns)
-      unfolding first_of_places least
-      first-least packets [] = refl
-      first-least packets (n ∷ []) = refl
-      first-least packets (n ∷ m ∷ ns) = ap (min (sent_at packets n)) (first-least packets (m ∷ ns))
 
   pub last-there : greatest (ticks_with has (retimed ticks xs)) ≡ last_of_places (sorted_at ticks xs) (map (place_of (sorted_at ticks xs) i) (numbers first count))
   last-there = same-greatest (ticks_with has (retimed ticks xs)) their-ticks ticks-there ticks-here ∙ sym (last-greatest (sorted_at ticks xs) (map (place_of (sorted_at ticks xs) i) (numbers first count)))
-    where
-      last-greatest : (packets : List Sent) (ns : List ℕ) → last_of_places packets ns ≡ greatest (map (sent_at packets) ns)
-      unfolding last_of_places greatest
-      last-greatest packets [] = refl
-      last-greatest packets (n ∷ ns) = ap (max (sent_at packets n)) (last-greatest packets ns)
 
 -- ---- units
 

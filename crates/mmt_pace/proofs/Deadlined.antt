@@ -27,10 +27,11 @@ replicate-at (suc n) (suc m) d = replicate-at n m d
 pub none-made : (cast : Cast) (packets : List Sent) (count : ℕ) (jobs : List Job) (blank : Job) (table : List (Option ℕ)) → count ≡ length packets → jobs ≡ replicate count blank → table ≡ replicate 65536 None → AreMade cast packets (count - 0) jobs table
 unfolding limits_of_id jobs_from
 none-made cast packets count jobs blank table ec ej et =
+    let nothing : Option ℕ = None in
     let none : drop (count - 0) packets ≡ [] = drop_all (count - 0) packets (omega (arith, ec)) in
     let long : length jobs ≡ count = ap (λ (js : List Job). length js) ej ∙ length-replicate count blank in
     record {
-      long = ap (λ (ts : List (Option ℕ)). length ts) et ∙ length-replicate 65536 None;
+      long = ap (λ (ts : List (Option ℕ)). length ts) et ∙ length-replicate 65536 nothing;
       all = long ∙ ec;
       each = λ id l. ap (λ (ts : List (Option ℕ)). get_or ts id None) et ∙ (replicate-at 65536 id None ∙ ap (λ (ps : List Sent). least_of (limits_of_id cast id ps)) (sym none));
       done = drop_all (count - 0) jobs (omega (arith, long)) ∙ ap (jobs_from cast) (sym none);

@@ -69,7 +69,7 @@ listed-rise cs listed i j d l b =
     (cases_lt i j)
 
 -- where a copy of this signal is, it is the first with it
-has-signal : (cs : List TableCopy) (s : ℕ) → copy_place cs s < length cs → (get_or cs (copy_place cs s) no_table_copy).signal ≡ s
+pub has-signal : (cs : List TableCopy) (s : ℕ) → copy_place cs s < length cs → (get_or cs (copy_place cs s) no_table_copy).signal ≡ s
 unfolding copy_place
 has-signal [] s l = absurd (omega arith)
 has-signal (c ∷ cs) s l = go (c.signal == s) refl l (has-signal cs s)
@@ -83,7 +83,7 @@ point-is cs s i listed l point =
     let j : ℕ = copy_place cs s in
     let is = has-signal cs s l in
     ⊎_elim
-    (λ (lt : j < i). (let h = ltb-true (get_or cs j no_table_copy).signal s (point.0 j no_table_copy l lt) in absurd (omega (arith, h, is))))
+    (λ (lt : j < i). (let h = ltb-true (get_or cs j no_table_copy).signal s (point.0 j no_table_copy (omega arith) lt) in absurd (omega (arith, h, is))))
     (λ (ge : i ≤ j).
     ⊎_elim (λ (gt : i < j). (let h = ltb-false (get_or cs i no_table_copy).signal s (point.1 i no_table_copy (omega arith) (omega (arith, gt, l))) in let r = listed-at cs i j no_table_copy listed gt l in absurd (omega (arith, h, r, is))))
     (λ (le : j ≤ i). omega (arith, ge, le)) (cases_lt i j))

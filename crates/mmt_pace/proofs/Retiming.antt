@@ -10,7 +10,7 @@ use Rattle.mmt_cast.proofs.Listing.{IsIn, each-at, each-weaker, in-sort}
 use Rattle.mmt_cast.proofs.Ordering.{Comparable, InOrder, from-sort, one-order, order-sort, sent-order}
 use Rattle.mmt_cast.proofs.Placed.{each-map_from_at}
 use Rattle.mmt_cast.specs.Casting.{is_sent_before}
-use Rattle.mmt_casting.proofs.Adding.{added-more, added-none, by-places}
+use Rattle.mmt_casting.proofs.Adding.{added-more}
 use Rattle.mmt_model.proofs.Preceding.{before-either}
 use Rattle.mmt_model.specs.Carrying.{numbers}
 use Rattle.mmt_model.specs.Handing.{precedes}
@@ -18,6 +18,7 @@ use Rattle.mmt_model.specs.Sorted.{sort_by}
 use Rattle.mmt_model.specs.Survival.{no_packet}
 use Rattle.mmt_model.specs.declared.casts.Cast.{Cast}
 use Rattle.mmt_model.specs.declared.casts.Sent.{Sent}
+use Rattle.mmt_pace.proofs.Between.{all-there}
 use Rattle.mmt_pace.proofs.Moved.{at-retimed, length-retimed}
 use Rattle.mmt_pace.specs.Asked.{AreApart, AreGiven, IsCarriedBy, IsRow, have_one_tick}
 use Rattle.mmt_pace.specs.Recast.{at_tick, retimed, ticks_of}
@@ -42,12 +43,7 @@ one-retimed ticks packets n items items' p q tick l e push et eq ep =
 
 pub all-retimed : (ticks : ℕ → ℕ) (packets : List Sent) (n : ℕ) (items : List Sent) → n ≡ length packets → items ≡ retimed_to ticks packets n → items ≡ retimed ticks packets
 unfolding retimed
-all-retimed ticks packets n items en e = e ∙ (ap (retimed_to ticks packets) en ∙ sym (by-places (λ k p. at_tick (ticks k) p) packets 0 no_packet ∙ same (length packets) 0))
-  where
-    same : (k j : ℕ) → map (λ i. at_tick (ticks (0 + i)) (get_or packets i no_packet)) (numbers j k) ≡ map (λ i. at_tick (ticks i) (get_or packets i no_packet)) (numbers j k)
-    unfolding numbers
-    same zero j = refl
-    same (suc k) j = let z : 0 + j ≡ j = omega arith in ap (λ i. at_tick (ticks i) (get_or packets j no_packet) ∷ map (λ i. at_tick (ticks (0 + i)) (get_or packets i no_packet)) (numbers (j + 1) k)) z ∙ ap (λ l. at_tick (ticks j) (get_or packets j no_packet) ∷ l) (same k (j + 1))
+all-retimed ticks packets n items en e = all-there (λ k p. at_tick (ticks k) p) no_packet packets n items en e
 
 -- what packets carry stays
 pub still-carried : (ticks : ℕ → ℕ) (cast : Cast) (packets : List Sent) → AllByRecursion (λ (p : Sent). IsCarriedBy cast p.carries) packets → AllByRecursion (λ (p : Sent). IsCarriedBy cast p.carries) (retimed ticks packets)

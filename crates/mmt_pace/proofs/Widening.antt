@@ -1,12 +1,20 @@
 -- The spans of units and table copies, packet by packet from the last to the first.
-use Rattle.std.proofs.Common.{◌≡◌, ℕ, ◌+◌, ◌-◌, ◌<◌, ◌≤◌, suc, zero, Bool, true, false, ◌==◌, ◌&&◌, nat_le, nat_lt, cond, List, [], ◌∷◌, map, length, get_or, drop, set, replicate, arith, refl, ap, ap₂, sym, ◌∙◌, subst, Option, Some, None, ⊎_elim, min, max, get_or-set_other, get_or-set_same}
+use Rattle.std.proofs.Common.{◌≡◌, ℕ, ◌+◌, ◌-◌, ◌<◌, ◌≤◌, suc, zero, Bool, true, false, ◌==◌, ◌&&◌, nat_le, nat_lt, cond, List, [], ◌∷◌, ◌++◌, map, length, get_or, take, drop, set, replicate, arith, refl, ap, ap₂, sym, ◌∙◌, subst, Option, Some, None, ⊎_elim, min, max, get_or-set_other, get_or-set_same}
 use Rattle.std.specs.List.{filter}
 use Rattle.std.proofs.Math.ListN.{length-set}
 use Rattle.std.proofs.lemmas.Bool.{and_from, cases_Bool, cases_eq, cases_lt, eq-eqb, eqb-true, le-leb, le-ltb, lt-ltb, ltb-true, ne_eqb}
 use Rattle.std.proofs.lemmas.Bool.Decides.{nat_tests}
-use Rattle.std.proofs.lemmas.List.{at_drop_more, drop_all, length-replicate}
-use Rattle.mmt_cast.specs.Casting.{greatest, has_unit, least, tick_of_sent}
+use Rattle.std.proofs.lemmas.List.{append-nil, at_drop_more, drop_all, length-replicate, take_all}
+use Rattle.mmt_cast.specs.Casting.{greatest, has_table, has_unit, least, tick_of_sent}
+use Rattle.mmt_cast.proofs.Copies.{Differ, own-copy}
+use Rattle.mmt_cast.proofs.Listing.{each-weaker}
+use Rattle.mmt_model.specs.Carrying.{copy_place, no_table_copy, table_copy}
 use Rattle.mmt_model.specs.declared.casts.Carries.{Carries}
+use Rattle.mmt_model.specs.declared.casts.Carries.TheVariants as carries
+use Rattle.mmt_model.specs.declared.casts.Cast.{Cast}
+use Rattle.mmt_model.specs.declared.casts.TableCopy.{TableCopy}
+use Rattle.mmt_pace.proofs.Lesser.{has-signal}
+use Rattle.mmt_pace.specs.Asked.{AreListed, IsCarriedBy}
 use Rattle.mmt_model.specs.declared.casts.Sent.{Sent}
 use Rattle.mmt_pace.proofs.Deadlined.{at-drop}
 use Rattle.mmt_pace.specs.Recast.{ticks_with}
@@ -62,8 +70,9 @@ replicate-at (suc n) (suc m) d = replicate-at n m d
 pub no-spans : (things count : ℕ) (has : ℕ → Carries → Bool) (packets : List Sent) (spans : List (Option Span)) → count ≡ length packets → spans ≡ replicate things None → AreSpans things has (drop (count - 0) packets) spans
 unfolding ticks_with
 no-spans things count has packets spans ec e =
+    let nothing : Option Span = None in
     record {
-      long = ap (λ (xs : List (Option Span)). length xs) e ∙ length-replicate things None;
+      long = ap (λ (xs : List (Option Span)). length xs) e ∙ length-replicate things nothing;
       each = λ n l. ap (λ (xs : List (Option Span)). get_or xs n None) e ∙ (replicate-at things n None ∙ ap (λ (ps : List Sent). span_of_ticks (ticks_with (has n) ps)) (sym (drop_all (count - 0) packets (omega (arith, ec)))));
     }
 
@@ -107,3 +116,84 @@ one-run v n = grind (arith, nat_tests)
 
 pub no-run : (n : ℕ) → false ≡ (nat_le 0 n && nat_lt n (0 + 0))
 no-run n = grind (arith, nat_tests)
+
+none-among : (n : ℕ) (r : Run) → r ≡ record { first = 0; count = 0 } → false ≡ is_among r n
+none-among n r e = no-run n ∙ sym (ap (λ (x : Run). is_among x n) e)
+
+-- units
+pub whole-unit : (n u : ℕ) (x : Carries) → x ≡ carries.Whole u → has_unit n x ≡ (nat_le u n && nat_lt n (u + 1))
+unfolding has_unit
+whole-unit n u x e = ap (has_unit n) e ∙ one-run u n
+
+pub fragment-unit : (n u k : ℕ) (x : Carries) → x ≡ carries.Fragment u k → has_unit n x ≡ (nat_le u n && nat_lt n (u + 1))
+unfolding has_unit
+fragment-unit n u k x e = ap (has_unit n) e ∙ one-run u n
+
+pub group-unit : (n f c : ℕ) (x : Carries) → x ≡ carries.Group f c → has_unit n x ≡ (nat_le f n && nat_lt n (f + c))
+unfolding has_unit
+group-unit n f c x e = ap (has_unit n) e
+
+pub parameters-unit : (n s : ℕ) (x : Carries) (r : Run) → x ≡ carries.Parameters s → r ≡ record { first = 0; count = 0 } → has_unit n x ≡ is_among r n
+unfolding has_unit
+parameters-unit n s x r e er = ap (has_unit n) e ∙ none-among n r er
+
+pub table-unit : (n s : ℕ) (x : Carries) (r : Run) → x ≡ carries.Table s → r ≡ record { first = 0; count = 0 } → has_unit n x ≡ is_among r n
+unfolding has_unit
+table-unit n s x r e er = ap (has_unit n) e ∙ none-among n r er
+
+pub part-unit : (n s k : ℕ) (x : Carries) (r : Run) → x ≡ carries.TablePart s k → r ≡ record { first = 0; count = 0 } → has_unit n x ≡ is_among r n
+unfolding has_unit
+part-unit n s k x r e er = ap (has_unit n) e ∙ none-among n r er
+
+-- table copies
+pub whole-table : (s u n : ℕ) (x : Carries) (r : Run) → x ≡ carries.Whole u → r ≡ record { first = 0; count = 0 } → has_table s x ≡ is_among r n
+unfolding has_table
+whole-table s u n x r e er = ap (has_table s) e ∙ none-among n r er
+
+pub fragment-table : (s u k n : ℕ) (x : Carries) (r : Run) → x ≡ carries.Fragment u k → r ≡ record { first = 0; count = 0 } → has_table s x ≡ is_among r n
+unfolding has_table
+fragment-table s u k n x r e er = ap (has_table s) e ∙ none-among n r er
+
+pub group-table : (s f c n : ℕ) (x : Carries) (r : Run) → x ≡ carries.Group f c → r ≡ record { first = 0; count = 0 } → has_table s x ≡ is_among r n
+unfolding has_table
+group-table s f c n x r e er = ap (has_table s) e ∙ none-among n r er
+
+pub parameters-table : (s t n : ℕ) (x : Carries) (r : Run) → x ≡ carries.Parameters t → r ≡ record { first = 0; count = 0 } → has_table s x ≡ is_among r n
+unfolding has_table
+parameters-table s t n x r e er = ap (has_table s) e ∙ none-among n r er
+
+differ-by : (cs : List TableCopy) → AreListed cs → Differ cs
+differ-by [] l = tt
+differ-by (c ∷ cs) l = (each-weaker (λ (d : TableCopy). c.signal < d.signal) (λ (d : TableCopy). c.signal ≡ d.signal → ⊥) cs (λ d lt e. omega (arith, lt, e)) l.0, differ-by cs l.1)
+
+-- a copy is that of a signal if and only if it stands at its place
+own-test : (cs : List TableCopy) (s n : ℕ) → AreListed cs → copy_place cs s < length cs → n < length cs → (s == (get_or cs n no_table_copy).signal) ≡ (copy_place cs s == n)
+own-test cs s n listed known l =
+    ⊎_elim
+    (λ (e : copy_place cs s ≡ n). (let at : (get_or cs n no_table_copy).signal ≡ s = ap (λ (k : ℕ). (get_or cs k no_table_copy).signal) (sym e) ∙ has-signal cs s known in eq-eqb s (get_or cs n no_table_copy).signal (sym at) ∙ sym (eq-eqb (copy_place cs s) n e)))
+    (λ (ne : copy_place cs s ≡ n → ⊥). ne_eqb s (get_or cs n no_table_copy).signal (λ e. ne (ap (copy_place cs) e ∙ own-copy cs n (differ-by cs listed) l)) ∙ sym (ne_eqb (copy_place cs s) n ne))
+    (cases_eq (copy_place cs s) n)
+
+copy-among : (cast : Cast) (s n : ℕ) (r : Run) → AreListed cast.copies → copy_place cast.copies s < length cast.copies → n < length cast.copies → r.first ≡ copy_place cast.copies s → r.count ≡ 1 → (s == (table_copy cast n).signal) ≡ is_among r n
+unfolding table_copy
+copy-among cast s n r listed known l ef ec =
+    own-test cast.copies s n listed known l ∙ (one-run (copy_place cast.copies s) n ∙ ap₂ (λ (f c : ℕ). nat_le f n && nat_lt n (f + c)) (sym ef) (sym ec))
+
+pub table-table : (cast : Cast) (s n : ℕ) (x : Carries) (r : Run) → x ≡ carries.Table s → AreListed cast.copies → copy_place cast.copies s < length cast.copies → n < length cast.copies → r.first ≡ copy_place cast.copies s → r.count ≡ 1 → has_table (table_copy cast n).signal x ≡ is_among r n
+unfolding has_table
+table-table cast s n x r e listed known l ef ec = ap (has_table (table_copy cast n).signal) e ∙ copy-among cast s n r listed known l ef ec
+
+pub part-table : (cast : Cast) (s k n : ℕ) (x : Carries) (r : Run) → x ≡ carries.TablePart s k → AreListed cast.copies → copy_place cast.copies s < length cast.copies → n < length cast.copies → r.first ≡ copy_place cast.copies s → r.count ≡ 1 → has_table (table_copy cast n).signal x ≡ is_among r n
+unfolding has_table
+part-table cast s k n x r e listed known l ef ec = ap (has_table (table_copy cast n).signal) e ∙ copy-among cast s n r listed known l ef ec
+
+-- what is known of a packet by what it carries
+pub table-known : (cast : Cast) (s : ℕ) (x : Carries) → x ≡ carries.Table s → IsCarriedBy cast x → copy_place cast.copies s < length cast.copies
+table-known cast s x e is = subst (IsCarriedBy cast) e is
+
+pub part-known : (cast : Cast) (s k : ℕ) (x : Carries) → x ≡ carries.TablePart s k → IsCarriedBy cast x → copy_place cast.copies s < length cast.copies
+part-known cast s k x e is = subst (IsCarriedBy cast) e is
+
+-- a slice that was written back whole
+pub written-back : (n : ℕ) (xs ys : List (Option Span)) → n ≡ length ys → length xs ≡ length ys → take n (xs ++ drop (length xs) ys) ≡ xs
+written-back n xs ys en e = ap (λ r. take n (xs ++ r)) (drop_all (length xs) ys (omega arith)) ∙ (ap (take n) (append-nil xs) ∙ take_all n xs (omega arith))

@@ -17,7 +17,11 @@ const PACKET_IDS: usize = 65_536;
 fn no_limits(alloc: Global) -> Result<Vec<Option<u64>>, OutOfMemory>
     ensures { IfOk result (λ limits. limits.items ≡ replicate 65536 None) }
 {
-    Ok(Vec::from_elem(alloc, None, PACKET_IDS)?)
+    let mut limits = Vec::with_capacity(alloc, PACKET_IDS)?;
+    for _id in 0..PACKET_IDS {
+        limits.push(None)?;
+    }
+    Ok(limits)
 }
 
 /// So many jobs, which are to be replaced.
