@@ -57,17 +57,17 @@ last-is (t ∷ ts) = refl
 tick-is : (a : LongTick) (n : ℕ) → a.0 ≡ n → a ≡ record { 0 = n }
 tick-is a n e = ap (λ (x : ℕ). let t : LongTick = record { 0 = x } in t) e
 
-pub unit-made : (packets : List Sent) (units : List SentUnit) (n : ℕ) (u : SentUnit) (spans : List (Option Span)) (d : Option Span) (first last : LongTick) → n < length units → length spans ≡ length units → AreSpans (length units) has_unit packets spans
-    → first.0 ≡ first_in (get_or spans n d) → last.0 ≡ last_in (get_or spans n d) → u ≡ get_or units n u
-    → record { asset = u.asset; mpu = u.mpu; unit = u.unit; key = u.key; time = u.time; due = u.due; first = first; last = last; first_number = u.first_number; count = u.count } ≡ unit_in_packets packets n (get_or units n no_sent_unit)
+pub unit-made : (packets : List Sent) (units : List SentUnit) (n : ℕ) (e : SentUnit) (spans : List (Option Span)) (d : Option Span) (first last : LongTick) → n < length units → length spans ≡ length units → AreSpans (length units) has_unit packets spans
+    → first.0 ≡ first_in (get_or spans n d) → last.0 ≡ last_in (get_or spans n d)
+    → (let u = get_or units n e in record { asset = u.asset; mpu = u.mpu; unit = u.unit; key = u.key; time = u.time; due = u.due; first = first; last = last; first_number = u.first_number; count = u.count }) ≡ unit_in_packets packets n (get_or units n no_sent_unit)
 unfolding unit_in_packets
-unit-made packets units n u spans d first last l same are ef el is =
+unit-made packets units n e spans d first last l same are ef el =
+    let u : SentUnit = get_or units n e in
     let at : get_or spans n d ≡ span_of_ticks (ticks_with (has_unit n) packets) = get-any spans n d None (omega (arith, l, same)) ∙ are.each n l in
     let f : first ≡ record { 0 = least (ticks_with (has_unit n) packets) } = tick-is first (least (ticks_with (has_unit n) packets)) (ef ∙ (ap first_in at ∙ first-is (ticks_with (has_unit n) packets))) in
     let g : last ≡ record { 0 = greatest (ticks_with (has_unit n) packets) } = tick-is last (greatest (ticks_with (has_unit n) packets)) (el ∙ (ap last_in at ∙ last-is (ticks_with (has_unit n) packets))) in
-    let v : u ≡ get_or units n no_sent_unit = is ∙ get-any units n u no_sent_unit l in
     ap₂ (λ (a b : LongTick). let s : SentUnit = record { asset = u.asset; mpu = u.mpu; unit = u.unit; key = u.key; time = u.time; due = u.due; first = a; last = b; first_number = u.first_number; count = u.count } in s) f g
-    ∙ ap (unit_in_packets packets n) v
+    ∙ ap (unit_in_packets packets n) (get-any units n e no_sent_unit l)
 
 pub copy-made : (packets : List Sent) (copies : List TableCopy) (n : ℕ) (c : TableCopy) (names : List ℕ) (spans : List (Option Span)) (d : Option Span) (first last : LongTick) → n < length copies → length spans ≡ length copies → AreCopySpans copies packets spans
     → first.0 ≡ first_in (get_or spans n d) → last.0 ≡ last_in (get_or spans n d) → c ≡ get_or copies n c → names ≡ c.names
@@ -83,13 +83,14 @@ copy-made packets copies n c names spans d first last l same are ef el is en =
     ∙ (ap₂ (λ (a b : LongTick). let y : TableCopy = record { signal = c.signal; names = c.names; first = a; last = b; first_number = c.first_number; count = c.count } in y) f g
     ∙ ap (copy_in_packets packets) v)
 
-pub mpu-made : (copies : List TableCopy) (mpus : List SentMpu) (n : ℕ) (m : SentMpu) (named : List (Option LongTick)) (d : Option LongTick) → n < length mpus → length named ≡ length mpus → AreNamed (length mpus) copies named → m ≡ get_or mpus n m
-    → record { asset = m.asset; mpu = m.mpu; least = m.least; last = m.last; named_from = get_or named n d } ≡ mpu_named_by copies n (get_or mpus n no_sent_mpu)
+pub mpu-made : (copies : List TableCopy) (mpus : List SentMpu) (n : ℕ) (e : SentMpu) (named : List (Option LongTick)) (d : Option LongTick) → n < length mpus → length named ≡ length mpus → AreNamed (length mpus) copies named
+    → (let m = get_or mpus n e in record { asset = m.asset; mpu = m.mpu; least = m.least; last = m.last; named_from = get_or named n d }) ≡ mpu_named_by copies n (get_or mpus n no_sent_mpu)
 unfolding mpu_named_by
-mpu-made copies mpus n m named d l same are is =
+mpu-made copies mpus n e named d l same are =
+    let m : SentMpu = get_or mpus n e in
     let at : get_or named n d ≡ long_tick (named_from_of n copies) = get-any named n d None (omega (arith, l, same)) ∙ are.each n l in
     ap (λ (o : Option LongTick). let y : SentMpu = record { asset = m.asset; mpu = m.mpu; least = m.least; last = m.last; named_from = o } in y) at
-    ∙ ap (mpu_named_by copies n) (is ∙ get-any mpus n m no_sent_mpu l)
+    ∙ ap (mpu_named_by copies n) (get-any mpus n e no_sent_mpu l)
 
 -- ---- copies as a plain map
 

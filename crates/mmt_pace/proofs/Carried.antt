@@ -86,7 +86,7 @@ last-greatest packets (n ∷ ns) = ap (max (sent_at packets n)) (last-greatest p
 
 -- their new ticks are those at their places in the new order
 module _ (ticks : ℕ → ℕ) (has : Carries → Bool) (xs : List Sent) (i first count : ℕ) (told : AreTold xs) (its : AreItsPackets has xs i first count) where
-  their-ticks : List ℕ
+  abbrev pub their-ticks : List ℕ
   their-ticks = map (sent_at (sorted_at ticks xs)) (map (place_of (sorted_at ticks xs) i) (numbers first count))
 
   tick-at : (n k : ℕ) → IsPacketAt xs n i (first + k) → sent_at (sorted_at ticks xs) (place_of (sorted_at ticks xs) i (first + k)) ≡ ticks n

@@ -3,7 +3,8 @@ use Rattle.std.proofs.Common.{◌≡◌, ℕ, ◌+◌, ◌<◌, ◌≤◌, suc, 
 use Rattle.std.specs.List.{AllByRecursion}
 use Rattle.std.specs.List.Sorted.{IsNonDecreasingBy, IsPartitionPoint}
 use Rattle.std.proofs.lemmas.Bool.{cases_lt, eq-eqb, eqb-true, ltb-false, ltb-true, ne_eqb}
-use Rattle.std.proofs.lemmas.List.{length-map, map-append, take_all, take_more}
+use Rattle.std.proofs.lemmas.List.{get_or_default, length-map, map-append, take_all, take_more}
+use Rattle.mmt_admit.specs.Faults.{CopyFits}
 use Rattle.mmt_cast.proofs.Listing.{each-at}
 use Rattle.mmt_cast.specs.Casting.{least}
 use Rattle.mmt_casting.proofs.Adding.{numbers-add, one-number}
@@ -123,3 +124,10 @@ copy-limit-none cast at signal place x limits d el ep l e ex =
     let c : TableCopy = table_copy cast place in
     ex ∙ (limit-none cast at c.last.0 c.names (e ∙ (ap (λ (ls : List (Option ℕ)). get_or ls place d) el ∙ limit-at cast place d l))
     ∙ ap (λ (k : ℕ). names_limit cast at (table_copy cast k).last.0 (table_copy cast k).names) ep)
+
+-- the ticks and the names of a copy
+pub copy-fits : (cast : Cast) (slice : List TableCopy) (i : ℕ) (c : TableCopy) → ((j : ℕ) → j < length cast.copies → CopyFits (length cast.mpus) (table_copy cast j)) → slice ≡ cast.copies → i < length slice → c ≡ get_or slice i c → CopyFits (length cast.mpus) c
+unfolding table_copy
+copy-fits cast slice i c fits e l is =
+    let at : c ≡ get_or cast.copies i no_table_copy = is ∙ (get_or_default slice i c no_table_copy l ∙ ap (λ (cs : List TableCopy). get_or cs i no_table_copy) e) in
+    subst (CopyFits (length cast.mpus)) (sym at) (fits i (omega (arith, l, ap (λ (cs : List TableCopy). length cs) e)))

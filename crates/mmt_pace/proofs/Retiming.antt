@@ -4,8 +4,10 @@ use Rattle.std.specs.List.{AllByRecursion, Contains, IsDistinct}
 use Rattle.std.specs.List.Sorted.{IsNonDecreasingBy, IsPermutation}
 use Rattle.std.proofs.Math.Nat.{mul-le-mul_right}
 use Rattle.std.proofs.lemmas.Bool.{cases_eq, cases_lt, eq-eqb, eqb-false, ne_eqb}
+use Rattle.std.proofs.lemmas.List.{get_or_default}
 use Rattle.std.proofs.lemmas.List.Sorted.{Contains-permutation, IsPermutation-sym}
 use Rattle.std.proofs.lemmas.Map.Keys.{IsDistinct-IsPermutation}
+use Rattle.mmt_base.specs.declared.ticks.LongTick.{LongTick}
 use Rattle.mmt_cast.proofs.Listing.{IsIn, each-at, each-weaker, in-sort}
 use Rattle.mmt_cast.proofs.Ordering.{Comparable, InOrder, from-sort, one-order, order-sort, sent-order}
 use Rattle.mmt_cast.proofs.Placed.{each-map_from_at}
@@ -35,11 +37,13 @@ pub none-retimed : (ticks : ℕ → ℕ) (packets items : List Sent) → items �
 unfolding numbers
 none-retimed ticks packets items e = e
 
-pub one-retimed : (ticks : ℕ → ℕ) (packets : List Sent) (n : ℕ) (items items' : List Sent) (p q : Sent) (tick : ℕ) → n < length packets → items ≡ retimed_to ticks packets n → items' ≡ items ++ p ∷ [] → tick ≡ ticks n → q ≡ get_or packets n no_packet → p ≡ at_tick tick q → items' ≡ retimed_to ticks packets (n + 1)
-one-retimed ticks packets n items items' p q tick l e push et eq ep =
+pub one-retimed : (ticks : ℕ → ℕ) (packets : List Sent) (n : ℕ) (d : Sent) (items items' : List Sent) (at : LongTick) → n < length packets → items ≡ retimed_to ticks packets n
+    → items' ≡ items ++ record { at = at; packet_id = (get_or packets n d).packet_id; number = (get_or packets n d).number; rap = (get_or packets n d).rap; length = (get_or packets n d).length; carries = (get_or packets n d).carries } ∷ []
+    → at.0 ≡ ticks n → items' ≡ retimed_to ticks packets (n + 1)
+one-retimed ticks packets n d items items' at l e push et =
     let z : n ≡ 0 + n = omega arith in
-    added-more (λ i. at_tick (ticks i) (get_or packets i no_packet)) 0 n [] items items' p e push
-    (ep ∙ (ap (λ t. at_tick t q) et ∙ (ap (at_tick (ticks n)) eq ∙ ap (λ i. at_tick (ticks i) (get_or packets i no_packet)) z)))
+    added-more (λ i. at_tick (ticks i) (get_or packets i no_packet)) 0 n [] items items' (at_tick at.0 (get_or packets n d)) e push
+    (ap (λ t. at_tick t (get_or packets n d)) et ∙ (ap (at_tick (ticks n)) (get_or_default packets n d no_packet l) ∙ ap (λ i. at_tick (ticks i) (get_or packets i no_packet)) z))
 
 pub all-retimed : (ticks : ℕ → ℕ) (packets : List Sent) (n : ℕ) (items : List Sent) → n ≡ length packets → items ≡ retimed_to ticks packets n → items ≡ retimed ticks packets
 unfolding retimed
@@ -70,7 +74,7 @@ slots-apart slots i j some e =
     (cases_lt i j)
   where
     further : (a b : ℕ) → a < b → tick_of slots a ≡ tick_of slots b → ⊥
-    further a b lt e = let next : a + 1 ≤ b = omega arith in let m = mul-le-mul_right slots.step next in let s : (a + 1) * slots.step ≡ a * slots.step + slots.step = ring in omega (arith, m, s, e, some)
+    further a b lt e = let next : a + 1 ≤ b = omega arith in let m = mul-le-mul_right slots.step next in omega (arith, m, e, some)
 
 pub retimed-apart : (slots : Slots) (given : List ℕ) (packets : List Sent) → IsRow slots → AreGiven (length packets) slots given → AreApart (retimed (ticks_of slots given) packets)
 retimed-apart slots given packets row are =

@@ -13,12 +13,12 @@ use std::alloc::Global;
 /// How many packet ids there are (ISO/IEC 23008-1, the packet id).
 const PACKET_IDS: usize = 65_536;
 
-/// No limit for each packet id.
-fn no_limits(alloc: Global) -> Result<Vec<Option<u64>>, OutOfMemory>
-    ensures { IfOk result (λ limits. limits.items ≡ replicate 65536 None) }
+/// No limit for each of so many packet ids.
+fn no_limits(alloc: Global, ids: usize) -> Result<Vec<Option<u64>>, OutOfMemory>
+    ensures { IfOk result (λ limits. limits.items ≡ replicate ids None) }
 {
-    let mut limits = Vec::with_capacity(alloc, PACKET_IDS)?;
-    for _id in 0..PACKET_IDS {
+    let mut limits = Vec::with_capacity(alloc, ids)?;
+    for _id in 0..ids {
         limits.push(None)?;
     }
     Ok(limits)
@@ -51,7 +51,7 @@ pub fn jobs_of(alloc: Global, cast: &Cast) -> Result<List<Job>, OutOfMemory>
     ensures { IfOk result (λ jobs. jobs ≡ jobs_by cast.now) }
 {
     let limits = copy_limits(alloc, cast)?;
-    let mut least = no_limits(alloc)?;
+    let mut least = no_limits(alloc, PACKET_IDS)?;
     let packets = cast.packets.as_slice();
     let count = packets.len();
     let mut jobs = blank_jobs(alloc, count)?;

@@ -7,4 +7,4 @@ use Rattle.mmt_pace.specs.Spanned.{AreCopySpans}
 use Rattle.mmt_pace.proofs.recasting.copies_between.Given as goal
 
 abbrev pub invariant-loop-n : goal.invariant-loop-n
-invariant-loop-n l = (packets : List Sent) → AreCopySpans l.copies packets l.spans → l.between.items ≡ made_to (λ i. copy_in_packets packets (get_or l.copies i no_table_copy)) l.n
+invariant-loop-n l = (packets : List Sent) → AreCopySpans l.fn.copies packets l.fn.spans → l.between.items ≡ made_to (λ i. copy_in_packets packets (get_or l.fn.copies i no_table_copy)) l.n

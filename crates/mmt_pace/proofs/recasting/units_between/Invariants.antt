@@ -8,4 +8,4 @@ use Rattle.mmt_pace.specs.Spanned.{AreSpans}
 use Rattle.mmt_pace.proofs.recasting.units_between.Given as goal
 
 abbrev pub invariant-loop-n : goal.invariant-loop-n
-invariant-loop-n l = (packets : List Sent) → AreSpans (length l.units) has_unit packets l.spans → l.between.items ≡ made_to (λ i. unit_in_packets packets i (get_or l.units i no_sent_unit)) l.n
+invariant-loop-n l = (packets : List Sent) → AreSpans (length l.fn.units) has_unit packets l.fn.spans → l.between.items ≡ made_to (λ i. unit_in_packets packets i (get_or l.fn.units i no_sent_unit)) l.n
