@@ -11,3 +11,4 @@ pub mod Retiming
 pub mod Asking
 pub mod Between
 pub mod Delivered
+pub mod Whole
