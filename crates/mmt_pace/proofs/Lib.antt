@@ -12,3 +12,4 @@ pub mod Asking
 pub mod Between
 pub mod Delivered
 pub mod Whole
+pub mod Stepping

@@ -3,3 +3,4 @@ pub mod Recast
 pub mod Asked
 pub mod Spanned
 pub mod Laws
+pub mod Pacing

@@ -9,13 +9,15 @@ mod recasting;
 #[cfg(test)]
 mod samples;
 mod spans;
+mod steps;
 #[cfg(test)]
 mod tests;
 mod timing;
 
 pub use jobs::jobs_of;
 pub use laws::{
-    casts_are_told, casts_can_be_paced, recast_programmes_are_delivered, recast_programmes_are_right,
-    recasts_are_right,
+    casts_are_told, casts_can_be_paced, recast_programmes_are_delivered,
+    recast_programmes_are_right, recasts_are_right,
 };
 pub use recasting::paced;
+pub use steps::pace_cast;

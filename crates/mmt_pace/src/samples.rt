@@ -1,11 +1,12 @@
 //! A worked plan, and plans that differ from it.
 
 ghost use Rattle.std.specs.Prelude.{IfOk};
+ghost use Rattle.mmt_model.specs.Right.{IsRight};
 ghost use Rattle.mmt_pace.specs.Asked.{CanBePaced};
 
 use mmt_casting::cast_of;
 use mmt_io::MemoryShelf;
-use mmt_model::Cast;
+use mmt_model::{Cast, Programme};
 use mmt_plan::read_plan;
 use std::alloc::Global;
 use std::test::Fail;
@@ -25,13 +26,23 @@ pub fn changed(alloc: Global, text: &str, changes: &str) -> Result<String, Fail>
     Ok(text)
 }
 
+// The programme that a text is.
+fn programme_of(alloc: Global, text: &str) -> Result<Programme, Fail>
+    ensures { IfOk result IsRight }
+{
+    let mut shelf = MemoryShelf::new(alloc, Vec::new(alloc));
+    shelf.put("plan", text.as_bytes().to_vec(alloc)?)?;
+    match read_plan(alloc, &mut shelf, "plan") {
+        Ok(programme) => Ok(programme),
+        Err(_) => Err("refused")?,
+    }
+}
+
 // The cast of the plan that a text is.
 pub fn cast_for(alloc: Global, text: &str) -> Result<Cast, Fail>
     ensures { IfOk result CanBePaced }
 {
-    let mut shelf = MemoryShelf::new(alloc, Vec::new(alloc));
-    shelf.put("plan", text.as_bytes().to_vec(alloc)?)?;
-    let programme = read_plan(alloc, &mut shelf, "plan").ok().ok_or("refused")?;
+    let programme = programme_of(alloc, text)?;
     match cast_of(alloc, &programme) {
         Ok(cast) => Ok(cast),
         Err(_) => Err("no cast")?,

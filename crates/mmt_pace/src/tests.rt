@@ -48,7 +48,10 @@ fn a_message_that_names_nothing_has_the_window(rt: HostRuntime) -> Result<(), Fa
 
 #[test]
 fn units_in_one_packet_have_the_limit_of_the_first_due(rt: HostRuntime) -> Result<(), Fail> {
-    let told = jobs_told(rt.alloc(), "\"length\":3000 => \"length\":300 && \"at\":300 => \"at\":200")?;
+    let told = jobs_told(
+        rt.alloc(),
+        "\"length\":3000 => \"length\":300 && \"at\":300 => \"at\":200",
+    )?;
     let wanted = "0 31767\n100 31767\n200 31767\n";
     assert_eq!(rt; told.as_str(), wanted);
     Ok(())
