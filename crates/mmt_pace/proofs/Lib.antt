@@ -13,3 +13,4 @@ pub mod Between
 pub mod Delivered
 pub mod Whole
 pub mod Stepping
+pub mod Fitting

@@ -1,5 +1,6 @@
 -- What holds of a cast whose packets are sent at other ticks.
-use Rattle.std.specs.Prelude.{◌≡◌, ℕ, ◌<◌, Bool, List, length, map, get_or, None}
+use Rattle.std.specs.Prelude.{◌≡◌, ℕ, ◌<◌, ◌^◌, Bool, List, length, map, get_or, None}
+use Rattle.mmt_admit.specs.Faults.{IsReadable}
 use Rattle.mmt_cast.specs.Casting.{cast_of}
 use Rattle.mmt_cast.specs.Refusing.{refusal}
 use Rattle.mmt_cast.specs.Right.{IsMessage, IsRight, contents_of, signal_at}
@@ -15,7 +16,9 @@ use Rattle.mmt_model.specs.declared.casts.Cast.{Cast}
 use Rattle.mmt_model.specs.declared.casts.Sent.{Sent}
 use Rattle.mmt_model.specs.declared.programmes.Params.{Params}
 use Rattle.mmt_model.specs.declared.programmes.Programme.{Programme}
-use Rattle.mmt_pace.specs.Recast.{recast}
+use Rattle.mmt_pace.specs.Asked.{AreGiven, CanBePaced, IsRow}
+use Rattle.mmt_pace.specs.Recast.{paced_by, recast}
+use Rattle.mmt_slots.specs.declared.row.Slots.{Slots}
 
 -- packet id and number tell these packets apart
 abbrev pub AreTold : List Sent → Type 0
@@ -50,3 +53,8 @@ RecastProgrammesAreDelivered =
     → NearDelivery cast.packets (tuned full_every (λ n. tunes (heard_of (packets_of cast contents) n)) delivery)
     → out_end (reading_of names_in (broadcast_of cast contents)) k (from_first tunes (map (heard_of (packets_of cast contents)) (from_heard full_every delivery)))
     ≡ expected (broadcast_of cast contents) cast.params.delay (newest_first (tuned full_every (λ n. tunes (heard_of (packets_of cast contents) n)) delivery)))
+
+-- admission may be asked about a paced cast
+abbrev pub PacedCastsAreReadable : Type 0
+PacedCastsAreReadable =
+    (slots : Slots) (given : List ℕ) (cast : Cast) → CanBePaced cast → IsRow slots → slots.step < 2 ^ 32 → AreGiven (length cast.packets) slots given → IsReadable (paced_by slots given cast)

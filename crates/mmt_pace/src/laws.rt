@@ -1,7 +1,8 @@
 //! What holds of casts whose packets are sent at other ticks.
 
 ghost use Rattle.mmt_pace.specs.Asked.{CastsCanBePaced};
-ghost use Rattle.mmt_pace.specs.Laws.{CastsAreTold, RecastProgrammesAreDelivered};
+ghost use Rattle.mmt_pace.specs.Laws.{CastsAreTold, PacedCastsAreReadable};
+ghost use Rattle.mmt_pace.specs.Laws.{RecastProgrammesAreDelivered};
 ghost use Rattle.mmt_pace.specs.Laws.{RecastProgrammesAreRight, RecastsAreRight};
 
 use mmt_delivery::delivery_theorem;
@@ -35,3 +36,8 @@ pub fn recast_programmes_are_delivered()
 {
     delivery_theorem();
 }
+
+/// Admission may be asked about a paced cast.
+pub fn paced_casts_are_readable()
+    ensures { PacedCastsAreReadable }
+{}

@@ -16,7 +16,7 @@ mod timing;
 
 pub use jobs::jobs_of;
 pub use laws::{
-    casts_are_told, casts_can_be_paced, recast_programmes_are_delivered,
+    casts_are_told, casts_can_be_paced, paced_casts_are_readable, recast_programmes_are_delivered,
     recast_programmes_are_right, recasts_are_right,
 };
 pub use recasting::paced;
