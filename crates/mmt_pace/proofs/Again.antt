@@ -1,9 +1,9 @@
 -- A cast at other ticks goes with the contents with which it went.
-use Rattle.std.proofs.Common.{◌≡◌, ℕ, ◌+◌, ◌<◌, ◌≤◌, Bool, true, List, [], length, map, get_or, arith, refl, ap, ap₂, sym, ◌∙◌, subst, Option, Some, None}
+use Rattle.std.proofs.Common.{◌≡◌, ℕ, ◌+◌, ◌<◌, true, List, [], length, map, get_or, arith, refl, ap, ap₂, sym, ◌∙◌, subst, Option, Some, None}
 use Rattle.std.specs.List.{AllByRecursion}
 use Rattle.mmt_base.specs.Ticks.{due_of}
-use Rattle.mmt_cast.specs.Casting.{greatest, has_table, has_unit, least, long_tick}
-use Rattle.mmt_model.specs.Carrying.{Contents, IsCastOf, IsInItsPlace, IsPacketAt, IsSentCopy, IsSentUnit, copy_place, entry_of_unit, first_of_places, has_part, has_table_part, last_of_places, mpu_of, named_from_of, numbers, place_of, places_of_copy, places_of_unit, sent_mpu, sent_unit, table_copy, tick_of}
+use Rattle.mmt_cast.specs.Casting.{has_table, has_unit, long_tick}
+use Rattle.mmt_model.specs.Carrying.{Contents, IsCastOf, IsInItsPlace, IsPacketAt, IsSentCopy, IsSentUnit, copy_place, entry_of_unit, first_of_places, has_part, has_table_part, last_of_places, named_from_of, numbers, place_of, places_of_copy, places_of_unit, sent_mpu, sent_unit, table_copy, tick_of}
 use Rattle.mmt_model.specs.Entries.{Entry}
 use Rattle.mmt_model.specs.Handing.{time_for}
 use Rattle.mmt_model.specs.Survival.{no_packet}
@@ -16,10 +16,10 @@ use Rattle.mmt_model.specs.declared.casts.SentMpu.{SentMpu}
 use Rattle.mmt_model.specs.declared.casts.SentUnit.{SentUnit}
 use Rattle.mmt_model.specs.declared.casts.TableCopy.{TableCopy}
 use Rattle.mmt_pace.proofs.Carried.{AreItsPackets, copy-packet, first-there, last-there, part-has, still-placed, table-part-has, unit-packet}
-use Rattle.mmt_pace.proofs.Moved.{from-sorted, moved, moved-to, sorted_at}
+use Rattle.mmt_pace.proofs.Moved.{from-sorted, moved-to, sorted_at}
 use Rattle.mmt_pace.proofs.Reading.{copies-many, copy-count, copy-is, copy-names, copy-number, copy-places, copy-signal, entry-is, mpu-is, mpu-of-is, mpus-many, packets-are, unit-count, unit-is, unit-number, units-many}
 use Rattle.mmt_pace.specs.Laws.{AreTold, RecastsAreRight}
-use Rattle.mmt_pace.specs.Recast.{copy_in_packets, mpu_named_by, recast, retimed, ticks_with, unit_in_packets}
+use Rattle.mmt_pace.specs.Recast.{copy_in_packets, mpu_named_by, recast, unit_in_packets}
 
 -- a packet that carries something is found at its new tick, and still carries it
 part-moved : (ticks : ℕ → ℕ) (xs : List Sent) (n i number : ℕ) (P : Carries → Type 0) → AreTold xs → IsPacketAt xs n i number → P (get_or xs n no_packet).carries

@@ -1,7 +1,7 @@
 -- The cast of a right programme may be paced.
-use Rattle.std.proofs.Common.{◌≡◌, ℕ, ◌+◌, ◌<◌, ◌≤◌, suc, Bool, true, false, ◌==◌, cond, List, [], ◌∷◌, ◌++◌, map, length, get_or, arith, refl, ap, sym, ◌∙◌, None}
+use Rattle.std.proofs.Common.{◌≡◌, ℕ, ◌+◌, ◌<◌, suc, Bool, true, false, ◌==◌, cond, List, [], ◌∷◌, map, length, get_or, arith, refl}
 use Rattle.std.specs.List.{AllByRecursion}
-use Rattle.mmt_admit.specs.Faults.{CopyFits, IsReadable}
+use Rattle.mmt_admit.specs.Faults.{CopyFits}
 use Rattle.mmt_cast.proofs.Copies.{table-copied}
 use Rattle.mmt_cast.proofs.Found.{each-sent}
 use Rattle.mmt_cast.proofs.FromRight.{right-programmes-fit}
@@ -10,13 +10,11 @@ use Rattle.mmt_cast.proofs.Reading.{length-units}
 use Rattle.mmt_cast.proofs.Rightness.{IsRightSending}
 use Rattle.mmt_cast.proofs.SentIn.{right-sending}
 use Rattle.mmt_cast.specs.Casting.{cast_of, copies_as_sent, copy_as_sent, with_number}
-use Rattle.mmt_cast.specs.Placing.{all_units, flat_map_from}
-use Rattle.mmt_cast.specs.Refusing.{refusal}
+use Rattle.mmt_cast.specs.Placing.{flat_map_from}
 use Rattle.mmt_cast.specs.Sending.{Sending, carried, packet_of}
 use Rattle.mmt_casting.specs.Named.{NamesPlaces}
 use Rattle.mmt_frag.specs.Cuts.{parts}
 use Rattle.mmt_model.specs.Carrying.{copy_place, no_table_copy, table_copy}
-use Rattle.mmt_model.specs.Right.{IsRight}
 use Rattle.mmt_model.specs.declared.casts.Carries.TheVariants as carries
 use Rattle.mmt_model.specs.declared.casts.Cast.{Cast}
 use Rattle.mmt_model.specs.declared.casts.Sent.{Sent}

@@ -1,8 +1,6 @@
 -- Units, table copies and MPUs with the ticks of their packets, one after the other.
-use Rattle.std.proofs.Common.{◌≡◌, ℕ, ◌+◌, ◌<◌, ◌≤◌, suc, zero, List, [], ◌∷◌, ◌++◌, map, length, get_or, take, arith, refl, ap, ap₂, sym, ◌∙◌, subst, Option, Some, None, max}
-use Rattle.std.proofs.lemmas.List.{map-append, take_all, take_more}
+use Rattle.std.proofs.Common.{◌≡◌, ℕ, ◌+◌, ◌<◌, suc, zero, List, [], ◌∷◌, ◌++◌, map, length, get_or, arith, refl, ap, ap₂, sym, ◌∙◌, Option, None}
 use Rattle.mmt_base.specs.declared.ticks.LongTick.{LongTick}
-use Rattle.mmt_cast.proofs.Listing.{each-at}
 use Rattle.mmt_cast.specs.Casting.{greatest, has_table, has_unit, least, long_tick}
 use Rattle.mmt_cast.specs.Placing.{map_from}
 use Rattle.mmt_casting.proofs.Adding.{added-more, by-places}

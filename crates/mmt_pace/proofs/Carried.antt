@@ -1,10 +1,9 @@
 -- What packets carry goes with their packet ids and numbers, whatever their ticks.
-use Rattle.std.proofs.Common.{◌≡◌, ℕ, ◌+◌, ◌<◌, ◌≤◌, suc, zero, min, max, Bool, true, false, ◌==◌, ◌&&◌, nat_le, nat_lt, inl, inr, List, [], ◌∷◌, length, map, get_or, arith, refl, ap, ap₂, sym, ◌∙◌, subst}
+use Rattle.std.proofs.Common.{◌≡◌, ℕ, ◌+◌, ◌<◌, ◌≤◌, suc, zero, min, max, Bool, true, ◌==◌, ◌&&◌, nat_le, nat_lt, inl, inr, List, [], ◌∷◌, length, map, get_or, arith, refl, ap, sym, ◌∙◌, subst}
 use Rattle.std.proofs.lemmas.Bool.{and_parts, eqb-true, leb-true, ltb-true}
 use Rattle.mmt_cast.proofs.Listing.{IsIn, in-map_numbers, map-map}
-use Rattle.mmt_cast.proofs.Ordering.{from-sort}
-use Rattle.mmt_cast.specs.Casting.{greatest, has_table, has_unit, is_sent_before, least}
-use Rattle.mmt_model.specs.Carrying.{Contents, IsInItsPlace, IsPacketAt, IsSentUnit, copy_place, entry_of_unit, first_of_places, has_part, has_table_part, last_of_places, mpu_of, numbers, place_of, sent_unit, table_copy}
+use Rattle.mmt_cast.specs.Casting.{greatest, has_table, has_unit, least}
+use Rattle.mmt_model.specs.Carrying.{Contents, IsInItsPlace, IsPacketAt, copy_place, entry_of_unit, first_of_places, has_part, has_table_part, last_of_places, numbers, place_of, sent_unit, table_copy}
 use Rattle.mmt_model.specs.Survival.{no_packet, sent_at}
 use Rattle.mmt_model.specs.declared.casts.Carries.{Carries}
 use Rattle.mmt_model.specs.declared.casts.Carries.TheVariants as carries

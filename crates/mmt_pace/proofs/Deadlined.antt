@@ -1,5 +1,5 @@
 -- The jobs of a cast, packet by packet from the last to the first.
-use Rattle.std.proofs.Common.{◌≡◌, ℕ, ◌+◌, ◌-◌, ◌<◌, ◌≤◌, suc, zero, Bool, true, false, ◌==◌, cond, List, [], ◌∷◌, map, length, get_or, drop, set, replicate, arith, refl, ap, ap₂, sym, ◌∙◌, subst, Option, Some, None, ⊎_elim, get_or-set_other, get_or-set_same}
+use Rattle.std.proofs.Common.{◌≡◌, ℕ, ◌+◌, ◌-◌, ◌<◌, ◌≤◌, suc, zero, Bool, ◌==◌, cond, List, [], ◌∷◌, map, length, get_or, drop, set, replicate, arith, refl, ap, ap₂, sym, ◌∙◌, subst, Option, Some, None, ⊎_elim, get_or-set_other, get_or-set_same}
 use Rattle.std.specs.List.{filter}
 use Rattle.std.proofs.Math.ListN.{length-set}
 use Rattle.std.proofs.lemmas.Bool.{cases_eq, eq-eqb, ne_eqb}

@@ -1,5 +1,4 @@
 -- The delivery theorem of programmes whose packets are sent at other ticks.
-use Rattle.std.proofs.Common.{◌≡◌, refl, subst, sym}
 use Rattle.mmt_cast.proofs.Theorem.{cast-right}
 use Rattle.mmt_cast.specs.Casting.{cast_of}
 use Rattle.mmt_cast.specs.Right.{contents_of}

@@ -1,24 +1,22 @@
 -- Admission may be asked about a paced cast, and the cast of a programme begins no later than at 2^48.
-use Rattle.std.proofs.Common.{◌≡◌, ℕ, ◌+◌, ◌*◌, ◌<◌, ◌≤◌, ◌^◌, suc, zero, Bool, true, false, inl, inr, cond, All, List, [], ◌∷◌, ◌++◌, map, length, get_or, arith, refl, ap, sym, ◌∙◌, subst, Option, Some, None}
+use Rattle.std.proofs.Common.{ℕ, ◌<◌, ◌^◌, Bool, true, false, cond, All, List, [], ◌∷◌, map, length, arith, ap, sym, ◌∙◌, subst, Option, Some, None}
 use Rattle.std.specs.List.{AllByRecursion}
 use Rattle.std.proofs.Math.Nat.{mul-le-mul_right}
 use Rattle.std.proofs.lemmas.List.{get_or_default}
 use Rattle.mmt_admit.specs.Faults.{CopyFits, IsReadable, MpuFits, TickFits, UnitFits}
 use Rattle.mmt_cast.proofs.Listing.{IsIn}
 use Rattle.mmt_cast.specs.Casting.{greatest, has_table, has_unit, least, long_tick}
-use Rattle.mmt_model.specs.Carrying.{least_with, named_from_of, no_table_copy, sent_mpu, sent_unit, table_copy}
+use Rattle.mmt_model.specs.Carrying.{least_with, named_from_of, sent_mpu, sent_unit, table_copy}
 use Rattle.mmt_model.specs.Counts.{member}
 use Rattle.mmt_model.specs.Survival.{no_packet}
 use Rattle.mmt_model.specs.declared.casts.Carries.{Carries}
 use Rattle.mmt_model.specs.declared.casts.Cast.{Cast}
 use Rattle.mmt_model.specs.declared.casts.Sent.{Sent}
-use Rattle.mmt_model.specs.declared.casts.SentMpu.{SentMpu}
-use Rattle.mmt_model.specs.declared.casts.SentUnit.{SentUnit}
 use Rattle.mmt_model.specs.declared.casts.TableCopy.{TableCopy}
 use Rattle.mmt_pace.proofs.Minima.{greatest-in, least-in}
 use Rattle.mmt_pace.proofs.Moved.{from-retimed, from-sorted, from-ticks, length-sorted, sorted_at}
 use Rattle.mmt_pace.proofs.Reading.{copies-many, copy-is, mpu-is, mpus-many, packets-are, unit-is, units-many}
-use Rattle.mmt_pace.specs.Asked.{AreGiven, CanBePaced, IsRow}
+use Rattle.mmt_pace.specs.Asked.{CanBePaced, IsRow}
 use Rattle.mmt_pace.specs.Laws.{PacedCastsAreReadable}
 use Rattle.mmt_pace.specs.Recast.{copy_in_packets, mpu_named_by, paced_by, recast, retimed, ticks_of, ticks_with, unit_in_packets}
 use Rattle.mmt_slots.specs.Schedule.{slot_of, tick_of}

@@ -1,8 +1,7 @@
 -- Until when the packets of a cast may be sent, step by step.
 use Rattle.std.proofs.Common.{◌≡◌, ℕ, ◌+◌, ◌<◌, ◌≤◌, suc, zero, min, Bool, true, false, ◌==◌, cond, ltb, List, [], ◌∷◌, ◌++◌, map, length, get_or, take, arith, refl, ap, sym, ◌∙◌, Option, Some, None, ⊎_elim, subst}
-use Rattle.std.specs.List.{AllByRecursion}
 use Rattle.std.specs.List.Sorted.{IsNonDecreasingBy, IsPartitionPoint}
-use Rattle.std.proofs.lemmas.Bool.{cases_lt, eq-eqb, eqb-true, ltb-false, ltb-true, ne_eqb}
+use Rattle.std.proofs.lemmas.Bool.{cases_lt, eqb-true, ltb-false, ltb-true}
 use Rattle.std.proofs.lemmas.List.{get_or_default, length-map, map-append, take_all, take_more}
 use Rattle.mmt_admit.specs.Faults.{CopyFits}
 use Rattle.mmt_cast.proofs.Listing.{each-at}

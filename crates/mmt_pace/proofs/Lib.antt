@@ -14,3 +14,4 @@ pub mod Delivered
 pub mod Whole
 pub mod Stepping
 pub mod Fitting
+pub mod Beginning

@@ -1,5 +1,5 @@
 -- The least and the greatest of several numbers.
-use Rattle.std.proofs.Common.{◌≡◌, ℕ, ◌+◌, ◌<◌, ◌≤◌, suc, zero, min, max, inl, inr, List, [], ◌∷◌, ◌++◌, length, arith, refl, sym, subst, ⊎_elim}
+use Rattle.std.proofs.Common.{◌≡◌, ℕ, ◌<◌, ◌≤◌, min, max, inl, inr, List, [], ◌∷◌, ◌++◌, length, arith, refl, subst, ⊎_elim}
 use Rattle.std.proofs.lemmas.Bool.{cases_lt}
 use Rattle.mmt_cast.proofs.Listing.{IsIn}
 use Rattle.mmt_cast.specs.Casting.{greatest, least}

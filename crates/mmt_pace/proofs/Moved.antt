@@ -1,5 +1,5 @@
 -- The packets of a cast at other ticks.
-use Rattle.std.proofs.Common.{◌≡◌, ℕ, ◌+◌, ◌<◌, ◌≤◌, suc, zero, Bool, true, false, ◌==◌, ◌&&◌, inl, inr, cond, List, [], ◌∷◌, length, map, get_or, arith, refl, ap, sym, ◌∙◌, subst, true≢false, ⊎_elim}
+use Rattle.std.proofs.Common.{◌≡◌, ℕ, ◌+◌, ◌<◌, suc, Bool, true, false, ◌==◌, ◌&&◌, inl, inr, cond, List, [], ◌∷◌, length, map, get_or, arith, refl, ap, sym, ◌∙◌, subst, true≢false, ⊎_elim}
 use Rattle.std.specs.List.{AllByRecursion, filter}
 use Rattle.std.proofs.lemmas.Bool.{and_from, and_parts, eq-eqb, eqb-true}
 use Rattle.mmt_cast.proofs.Listing.{IsIn, at-map_from_0, each-from, in-at, in-sort, length-map_from, length-sort}

@@ -1,5 +1,5 @@
 -- What stands at a place of a cast at other ticks.
-use Rattle.std.proofs.Common.{◌≡◌, ℕ, ◌+◌, ◌<◌, ◌==◌, ◌&&◌, suc, zero, cond, List, [], ◌∷◌, map, length, get_or, arith, refl, ap, ap₂, sym, ◌∙◌}
+use Rattle.std.proofs.Common.{◌≡◌, ℕ, ◌+◌, ◌<◌, ◌==◌, ◌&&◌, suc, zero, cond, List, [], ◌∷◌, map, length, get_or, arith, refl, ap, ap₂, ◌∙◌}
 use Rattle.std.proofs.lemmas.List.{length-map}
 use Rattle.mmt_cast.proofs.Listing.{at-map_from_0, length-map_from}
 use Rattle.mmt_cast.specs.Placing.{map_from}

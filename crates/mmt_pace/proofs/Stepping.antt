@@ -1,11 +1,11 @@
 -- A cast that is paced with a step.
-use Rattle.std.proofs.Common.{◌≡◌, ℕ, ◌+◌, ◌*◌, ◌<◌, ◌≤◌, ◌^◌, suc, zero, max, List, [], ◌∷◌, ◌++◌, map, length, get_or, take, arith, refl, ap, sym, ◌∙◌, subst}
+use Rattle.std.proofs.Common.{◌≡◌, ℕ, ◌+◌, ◌<◌, ◌≤◌, ◌^◌, suc, max, List, [], ◌∷◌, ◌++◌, map, length, get_or, take, arith, refl, ap, ◌∙◌}
 use Rattle.std.proofs.lemmas.List.{map-append, take_all, take_more}
 use Rattle.mmt_cast.specs.Casting.{greatest}
 use Rattle.mmt_model.specs.Survival.{sent_at}
 use Rattle.mmt_model.specs.declared.casts.Cast.{Cast}
 use Rattle.mmt_model.specs.declared.casts.Sent.{Sent}
-use Rattle.mmt_pace.specs.Asked.{AreGiven, CanBePaced}
+use Rattle.mmt_pace.specs.Asked.{AreGiven}
 use Rattle.mmt_pace.specs.Deadlines.{jobs_by, jobs_from}
 use Rattle.mmt_pace.specs.Pacing.{deadline_by, slots_by, slots_to}
 use Rattle.mmt_slots.specs.Schedule.{IsSchedule}

@@ -1,5 +1,5 @@
 -- Packet id and number tell the packets of a programme's cast apart.
-use Rattle.std.proofs.Common.{◌≡◌, ℕ, ◌+◌, ◌<◌, ◌≤◌, suc, zero, Bool, true, false, cond, List, [], ◌∷◌, ◌++◌, length, get_or, arith, refl, ap, sym, ◌∙◌, ◌⊎◌}
+use Rattle.std.proofs.Common.{◌≡◌, ◌≤◌, suc, zero, Bool, true, false, cond, List, [], ◌∷◌, ◌++◌, arith, refl, ap, sym}
 use Rattle.std.specs.List.{AllByRecursion}
 use Rattle.mmt_cast.proofs.Listing.{each-at, each-weaker}
 use Rattle.mmt_cast.proofs.Numbering.{count-push, from-earlier}
@@ -7,17 +7,16 @@ use Rattle.mmt_cast.specs.Casting.{cast_of, count_of_id, is_sent_before, numbere
 use Rattle.mmt_model.specs.Sorted.{insert_by, sort_by}
 use Rattle.mmt_model.specs.Survival.{no_packet}
 use Rattle.mmt_model.specs.declared.casts.Sent.{Sent}
-use Rattle.mmt_model.specs.declared.programmes.Programme.{Programme}
 use Rattle.mmt_pace.specs.Laws.{AreTold, CastsAreTold}
 
-abbrev Differ : Sent → Sent → Type 0
+abbrev pub Differ : Sent → Sent → Type 0
 Differ p q = p.packet_id ≡ q.packet_id → p.number ≡ q.number → ⊥
 
-abbrev AllDiffer : List Sent → Type 0
+abbrev pub AllDiffer : List Sent → Type 0
 AllDiffer [] = Unit {0}
 AllDiffer (p ∷ ps) = AllByRecursion (Differ p) ps × AllDiffer ps
 
-numbered-differ : (e xs : List Sent) → AllDiffer (numbered_after e xs)
+pub numbered-differ : (e xs : List Sent) → AllDiffer (numbered_after e xs)
 unfolding numbered_after with_number
 numbered-differ e [] = tt
 numbered-differ e (x ∷ xs) = (

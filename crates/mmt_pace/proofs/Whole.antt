@@ -1,6 +1,5 @@
 -- The parts of a paced cast, put together.
-use Rattle.std.proofs.Common.{◌≡◌, ℕ, List, map, length, ap, ap₂, refl, sym, ◌∙◌, subst, Option}
-use Rattle.std.specs.List.{AllByRecursion}
+use Rattle.std.proofs.Common.{◌≡◌, ℕ, List, map, length, ap, sym, ◌∙◌, subst, Option}
 use Rattle.mmt_base.specs.declared.ticks.LongTick.{LongTick}
 use Rattle.mmt_cast.specs.Casting.{has_unit, is_sent_before}
 use Rattle.mmt_cast.specs.Placing.{map_from}

@@ -1,10 +1,9 @@
 -- The spans of units and table copies, packet by packet from the last to the first.
-use Rattle.std.proofs.Common.{◌≡◌, ℕ, ◌+◌, ◌-◌, ◌<◌, ◌≤◌, suc, zero, Bool, true, false, ◌==◌, ◌&&◌, nat_le, nat_lt, cond, List, [], ◌∷◌, ◌++◌, map, length, get_or, take, drop, set, replicate, arith, refl, ap, ap₂, sym, ◌∙◌, subst, Option, Some, None, ⊎_elim, min, max, get_or-set_other, get_or-set_same}
+use Rattle.std.proofs.Common.{◌≡◌, ℕ, ◌+◌, ◌-◌, ◌<◌, ◌≤◌, suc, zero, Bool, true, false, ◌==◌, ◌&&◌, nat_le, nat_lt, cond, List, [], ◌∷◌, ◌++◌, map, length, get_or, take, drop, set, replicate, arith, refl, ap, ap₂, sym, ◌∙◌, subst, Option, Some, None, ⊎_elim, max, get_or-set_other, get_or-set_same}
 use Rattle.std.specs.List.{filter}
-use Rattle.std.proofs.Math.ListN.{length-set}
-use Rattle.std.proofs.lemmas.Bool.{and_from, cases_Bool, cases_eq, cases_lt, eq-eqb, eqb-true, le-leb, le-ltb, lt-ltb, ltb-true, ne_eqb}
+use Rattle.std.proofs.lemmas.Bool.{cases_eq, eq-eqb, ne_eqb}
 use Rattle.std.proofs.lemmas.Bool.Decides.{nat_tests}
-use Rattle.std.proofs.lemmas.List.{append-nil, at_drop_more, drop_all, length-replicate, take_all}
+use Rattle.std.proofs.lemmas.List.{append-nil, drop_all, length-replicate, take_all}
 use Rattle.mmt_cast.specs.Casting.{greatest, has_table, has_unit, least, tick_of_sent}
 use Rattle.mmt_cast.proofs.Copies.{Differ, own-copy}
 use Rattle.mmt_cast.proofs.Listing.{each-weaker}

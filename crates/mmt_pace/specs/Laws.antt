@@ -1,5 +1,5 @@
 -- What holds of a cast whose packets are sent at other ticks.
-use Rattle.std.specs.Prelude.{◌≡◌, ℕ, ◌<◌, ◌^◌, Bool, List, length, map, get_or, None}
+use Rattle.std.specs.Prelude.{◌≡◌, ℕ, ◌<◌, ◌≤◌, ◌^◌, Bool, List, length, map, get_or, None}
 use Rattle.mmt_admit.specs.Faults.{IsReadable}
 use Rattle.mmt_cast.specs.Casting.{cast_of}
 use Rattle.mmt_cast.specs.Refusing.{refusal}
@@ -11,7 +11,8 @@ use Rattle.mmt_model.specs.Delivery.{NearDelivery, from_first, from_heard, newes
 use Rattle.mmt_model.specs.Entries.{Entry}
 use Rattle.mmt_model.specs.Expected.{expected}
 use Rattle.mmt_model.specs.Packets.{Heard}
-use Rattle.mmt_model.specs.Survival.{AreOf, heard_of, no_packet}
+use Rattle.mmt_model.specs.Right.{IsRight as IsRightProgramme}
+use Rattle.mmt_model.specs.Survival.{AreOf, heard_of, no_packet, sent_at}
 use Rattle.mmt_model.specs.declared.casts.Cast.{Cast}
 use Rattle.mmt_model.specs.declared.casts.Sent.{Sent}
 use Rattle.mmt_model.specs.declared.programmes.Params.{Params}
@@ -58,3 +59,7 @@ RecastProgrammesAreDelivered =
 abbrev pub PacedCastsAreReadable : Type 0
 PacedCastsAreReadable =
     (slots : Slots) (given : List ℕ) (cast : Cast) → CanBePaced cast → IsRow slots → slots.step < 2 ^ 32 → AreGiven (length cast.packets) slots given → IsReadable (paced_by slots given cast)
+
+-- the cast of a right programme begins at a tick at which slots may start
+abbrev pub CastsBeginInTime : Type 0
+CastsBeginInTime = (programme : Programme) → IsRightProgramme programme → sent_at (cast_of programme).packets 0 ≤ 2 ^ 48

@@ -1,7 +1,7 @@
 //! What holds of casts whose packets are sent at other ticks.
 
 ghost use Rattle.mmt_pace.specs.Asked.{CastsCanBePaced};
-ghost use Rattle.mmt_pace.specs.Laws.{CastsAreTold, PacedCastsAreReadable};
+ghost use Rattle.mmt_pace.specs.Laws.{CastsAreTold, CastsBeginInTime, PacedCastsAreReadable};
 ghost use Rattle.mmt_pace.specs.Laws.{RecastProgrammesAreDelivered};
 ghost use Rattle.mmt_pace.specs.Laws.{RecastProgrammesAreRight, RecastsAreRight};
 
@@ -40,4 +40,9 @@ pub fn recast_programmes_are_delivered()
 /// Admission may be asked about a paced cast.
 pub fn paced_casts_are_readable()
     ensures { PacedCastsAreReadable }
+{}
+
+/// The cast of a right programme begins at a tick at which slots may start.
+pub fn casts_begin_in_time()
+    ensures { CastsBeginInTime }
 {}

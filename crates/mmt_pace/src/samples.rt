@@ -1,7 +1,8 @@
 //! A worked plan, and plans that differ from it.
 
-ghost use Rattle.std.specs.Prelude.{IfOk};
+ghost use Rattle.std.specs.Prelude.{◌≤◌, ◌^◌, IfOk};
 ghost use Rattle.mmt_model.specs.Right.{IsRight};
+ghost use Rattle.mmt_model.specs.Survival.{sent_at};
 ghost use Rattle.mmt_pace.specs.Asked.{CanBePaced};
 
 use mmt_casting::cast_of;
@@ -40,7 +41,8 @@ fn programme_of(alloc: Global, text: &str) -> Result<Programme, Fail>
 
 // The cast of the plan that a text is.
 pub fn cast_for(alloc: Global, text: &str) -> Result<Cast, Fail>
-    ensures { IfOk result CanBePaced }
+    ensures can { IfOk result CanBePaced }
+    ensures start { IfOk result (λ cast. sent_at cast.packets 0 ≤ 2 ^ 48) }
 {
     let programme = programme_of(alloc, text)?;
     match cast_of(alloc, &programme) {

@@ -1,4 +1,4 @@
-use Rattle.std.proofs.Common.{◌≡◌, ◌-◌}
+use Rattle.std.proofs.Common.{◌-◌}
 use Rattle.mmt_pace.proofs.Deadlined.{AreMade}
 use Rattle.mmt_pace.proofs.jobs.jobs_of.Given as goal
 

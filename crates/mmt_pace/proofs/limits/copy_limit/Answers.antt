@@ -1,4 +1,4 @@
-use Rattle.std.proofs.Common.{◌≡◌, ◌<◌, ◌∙◌, List, length, arith, ap, sym, None}
+use Rattle.std.proofs.Common.{◌≡◌, ◌∙◌, List, arith, ap, sym}
 use Rattle.mmt_model.specs.Carrying.{copy_place}
 use Rattle.mmt_model.specs.declared.casts.TableCopy.{TableCopy}
 use Rattle.mmt_pace.proofs.Lesser.{copy-limit-none, copy-limit-some}

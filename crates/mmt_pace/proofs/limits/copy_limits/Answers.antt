@@ -1,5 +1,4 @@
-use Rattle.std.proofs.Common.{◌<◌, All, List, length, arith, ap, sym, subst, ℕ}
-use Rattle.mmt_model.specs.declared.casts.TableCopy.{TableCopy}
+use Rattle.std.proofs.Common.{◌<◌, All, List, length, sym, subst, ℕ}
 use Rattle.mmt_pace.proofs.Lesser.{copy-fits}
 use Rattle.mmt_pace.proofs.limits.copy_limits.Goals as goal
 

@@ -1,4 +1,4 @@
-use Rattle.std.proofs.Common.{◌≡◌, List, length, get_or}
+use Rattle.std.proofs.Common.{◌≡◌, List, get_or}
 use Rattle.mmt_model.specs.Carrying.{no_table_copy}
 use Rattle.mmt_model.specs.declared.casts.Sent.{Sent}
 use Rattle.mmt_pace.proofs.Between.{made_to}

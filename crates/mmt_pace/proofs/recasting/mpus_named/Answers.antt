@@ -1,4 +1,4 @@
-use Rattle.std.proofs.Common.{◌≡◌, length, get_or, arith}
+use Rattle.std.proofs.Common.{get_or, arith}
 use Rattle.mmt_model.specs.Carrying.{no_sent_mpu}
 use Rattle.mmt_pace.proofs.Between.{all-there, mpu-made, none-yet, one-more}
 use Rattle.mmt_pace.specs.Recast.{mpu_named_by}

@@ -6,7 +6,6 @@ use Rattle.mmt_casting.specs.Named.{NamesPlaces}
 use Rattle.mmt_model.specs.Sorted.{sort_by}
 use Rattle.mmt_model.specs.declared.casts.Cast.{Cast}
 use Rattle.mmt_model.specs.declared.casts.Sent.{Sent}
-use Rattle.mmt_model.specs.declared.casts.TableCopy.{TableCopy}
 use Rattle.mmt_pace.proofs.Asking.{copies-named}
 use Rattle.mmt_pace.proofs.Retiming.{retimed-apart, still-carried}
 use Rattle.mmt_pace.proofs.Whole.{copies-done, mpus-done, put-together, units-done}

@@ -1,4 +1,4 @@
-use Rattle.std.proofs.Common.{◌≡◌, length, get_or, arith}
+use Rattle.std.proofs.Common.{get_or, arith}
 use Rattle.mmt_model.specs.Carrying.{no_sent_unit}
 use Rattle.mmt_pace.proofs.Between.{all-there, none-yet, one-more, unit-made}
 use Rattle.mmt_pace.specs.Recast.{unit_in_packets}

@@ -1,4 +1,4 @@
-use Rattle.std.proofs.Common.{◌≡◌, ◌+◌, ◌-◌, ◌∙◌, List, length, drop, get_or, replicate, arith, ap, refl, sym, subst, Option, None}
+use Rattle.std.proofs.Common.{◌≡◌, ◌+◌, ◌-◌, ◌∙◌, List, length, drop, replicate, arith, ap, refl, sym, subst, Option, None}
 use Rattle.std.proofs.lemmas.List.{get_or_default}
 use Rattle.mmt_pace.proofs.Widening.{no-spans, one-span, written-back}
 use Rattle.mmt_pace.specs.Spanned.{AreSpans, count_of, has_thing}

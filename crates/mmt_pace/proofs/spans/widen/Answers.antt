@@ -1,4 +1,4 @@
-use Rattle.std.proofs.Common.{arith, length}
+use Rattle.std.proofs.Common.{arith}
 use Rattle.mmt_pace.proofs.Widening.{none-widened, one-widened}
 use Rattle.mmt_pace.proofs.spans.widen.Goals as goal
 

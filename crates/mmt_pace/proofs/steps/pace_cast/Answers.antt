@@ -1,4 +1,4 @@
-use Rattle.std.proofs.Common.{◌≡◌, ◌∙◌, ℕ, List, Ok, length, arith, ap, subst}
+use Rattle.std.proofs.Common.{List, length, arith, ap, subst}
 use Rattle.mmt_pace.proofs.Stepping.{length-jobs, slots-few, slots-given, slots-start, slots-step}
 use Rattle.mmt_slots.specs.Schedule.{IsSchedule}
 use Rattle.mmt_slots.specs.declared.row.Job.{Job}

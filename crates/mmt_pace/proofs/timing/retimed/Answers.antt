@@ -1,4 +1,4 @@
-use Rattle.std.proofs.Common.{◌≡◌, length, arith}
+use Rattle.std.proofs.Common.{arith}
 use Rattle.mmt_pace.proofs.Retiming.{all-retimed, none-retimed, one-retimed}
 use Rattle.mmt_pace.specs.Recast.{ticks_of}
 use Rattle.mmt_pace.proofs.timing.retimed.Goals as goal
