@@ -167,11 +167,12 @@ fn five_packets_have_no_room_in_two_slots(rt: HostRuntime) -> Result<(), Fail> {
 }
 
 #[test]
-fn the_earlier_deadline_goes_first(rt: HostRuntime) -> Result<(), Fail> {
-    // The unit in three parts is due at 32768, and now both are sent at 200. The other, due later, has the later number.
+fn of_equal_deadlines_the_first_place_goes_first(rt: HostRuntime) -> Result<(), Fail> {
+    // The second unit goes after the first part of the first one, and by the deadline of the other two, so the four have
+    // one deadline.
     let told = paced_told(rt.alloc(), "\"at\":300 => \"at\":200", 5000)?;
     let wanted =
-        "0 5000 10000 15000 20000 25000 unit 10000 20000 unit 25000 25000 copy 5000 5000 named 5000";
+        "0 5000 10000 15000 20000 25000 unit 10000 25000 unit 15000 15000 copy 5000 5000 named 5000";
     assert_eq!(rt; told.as_str(), wanted);
     Ok(())
 }
