@@ -30,3 +30,4 @@ mod walking;
 
 pub use casting::cast_of;
 pub use ends::CastEnd;
+pub use naming::named_from;

@@ -43,7 +43,7 @@ fn unnamed(alloc: Global, mpus: usize) -> Result<Vec<Option<LongTick>>, OutOfMem
 }
 
 /// The tick from which each of so many MPUs is named: the least at which a copy that names it ends.
-pub(crate) fn named_from(
+pub fn named_from(
     alloc: Global,
     mpus: usize,
     copies: &[TableCopy],

@@ -158,15 +158,15 @@ fn many_jobs_are_scheduled_in_time(rt: HostRuntime) -> Result<(), Fail> {
         count: 16_777_216,
     };
     let mut jobs = List::new(rt.alloc());
-    for n in 0u64..200_000 {
-        let release = n * 7919 % 200_000 * 80;
+    for n in 0u64..1_000_000 {
+        let release = n * 7919 % 1_000_000 * 16;
         let job = Job {
             release,
-            deadline: release + 200_000,
+            deadline: release + 1_000_000,
         };
         jobs.push(job).ok().ok_or("no memory")?;
     }
     let given = schedule(rt.alloc(), &jobs, &row).ok().ok_or("no schedule")?;
-    assert_eq!(rt; given.get(1).copied(), Some(633_520));
+    assert_eq!(rt; given.get(1).copied(), Some(126_704));
     Ok(())
 }

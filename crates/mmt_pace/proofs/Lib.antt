@@ -1,0 +1,17 @@
+pub mod Minima
+pub mod Moved
+pub mod Reading
+pub mod Carried
+pub mod Again
+pub mod Told
+pub mod Lesser
+pub mod Deadlined
+pub mod Widening
+pub mod Retiming
+pub mod Asking
+pub mod Between
+pub mod Delivered
+pub mod Whole
+pub mod Stepping
+pub mod Fitting
+pub mod Beginning
