@@ -28,7 +28,7 @@ remembered_fits : (table : List (Option Ip6Header)) (i : ℕ) (x : Option Ip6Hea
 remembered_fits table i (Some h) fits all = set_fits table i (Some h) fits all
 remembered_fits table i None fits all = all
 
-value_fits : (body : List ℕ) (v : Value) → IsBytes body → packet_of body ≡ Ok v → Fits v
+pub value_fits : (body : List ℕ) (v : Value) → IsBytes body → packet_of body ≡ Ok v → Fits v
 value_fits body v are is = let f = packet_format.takes body v are tt is in f.2
 
 -- the header that a body carries fits, where the body is bytes
@@ -49,7 +49,7 @@ with_header_fits : (v : Value) (full : Bool) (x : Option Ip6Header) (h : Opened)
 with_header_fits v full (Some x) h fits is = subst (λ (o : Opened). HeaderFits o.header) (ok_is _ _ is) fits
 with_header_fits v full None h fits is = absurd cc
 
-opened_by_fits : (headers : ℕ → Option Ip6Header) (v : Value) (x : Option Ip6Header) (h : Opened) → IfSome x HeaderFits → ((context : ℕ) → IfSome (headers context) HeaderFits)
+pub opened_by_fits : (headers : ℕ → Option Ip6Header) (v : Value) (x : Option Ip6Header) (h : Opened) → IfSome x HeaderFits → ((context : ℕ) → IfSome (headers context) HeaderFits)
     → opened_by headers v x ≡ ok h → HeaderFits h.header
 opened_by_fits headers v (Some x) h fits all is = with_header_fits v true (Some x) h fits is
 opened_by_fits headers v None h fits all is = with_header_fits v false (headers v.context) h (all v.context) is

@@ -5,3 +5,4 @@ pub mod Tables
 pub mod Flows
 pub mod Shrinking
 pub mod Keeping
+pub mod Promises

@@ -4,10 +4,12 @@
 
 mod expander;
 mod flow;
+mod laws;
 mod shrinker;
 mod writing;
 
 pub use expander::{ExpandEnd, Expander};
+pub use laws::{expanding_keeps_datagrams, squeezing_keeps_datagrams};
 pub use shrinker::{ShrinkEnd, Shrinker};
 
 #[cfg(test)]
