@@ -2,7 +2,7 @@
 use Rattle.std.proofs.Common.{◌≡◌, ℕ, ◌+◌, ◌<◌, ◌≤◌, Bool, true, false, cond, eqb, leb, List, [], ◌∷◌, length, Option, Some, None, Result, Ok, Err, refl, sym, ap, ap₂, subst, ◌∙◌, arith}
 use Rattle.std.specs.Prelude.{All, ⊤, map, IfSome}
 use Rattle.std.specs.List.{AllByRecursion, cons_option, filter}
-use Rattle.std.proofs.lemmas.Bool.{le-leb, leb-le}
+use Rattle.std.proofs.lemmas.Bool.{le-leb, leb-true}
 use Rattle.mmt_base.specs.declared.refused.Refused.{Refused}
 use Rattle.mmt_fields.proofs.Codec.{IsBytes}
 use Rattle.mmt_tlv.specs.Framing.{Packet}
@@ -59,14 +59,11 @@ last_fits (body ∷ bodies) context all = first_fits (carried_by context (compre
 
 bodies_are : (packets : List Packet) → AllByRecursion IsWhole packets → AllByRecursion IsBytes (compressed_bodies packets)
 bodies_are [] all = tt
-bodies_are (p ∷ packets) all = by (is_compressed p)
+bodies_are (p ∷ packets) all = by (is_compressed p) (bodies_are packets all.1)
   where
-    rest : AllByRecursion IsBytes (compressed_bodies packets)
-    rest = bodies_are packets all.1
-
-    by : (b : Bool) → AllByRecursion IsBytes (map (λ (q : Packet). q.body) (cond b (p ∷ filter is_compressed packets) (filter is_compressed packets)))
-    by true = let w : IsWhole p = all.0 in (are_bytes p.body w.bytes, rest)
-    by false = rest
+    by : (b : Bool) → AllByRecursion IsBytes (compressed_bodies packets) → AllByRecursion IsBytes (map (λ (q : Packet). q.body) (cond b (p ∷ filter is_compressed packets) (filter is_compressed packets)))
+    by true rest = let w : IsWhole p = all.0 in (are_bytes p.body w.bytes, rest)
+    by false rest = rest
 
 pub header_fits : (earlier : List Packet) (p : Packet) (v : Opened) → AllByRecursion IsWhole earlier → IsWhole p → opened_after (compressed_bodies earlier) p.body ≡ Ok v → HeaderFits v.header
 header_fits earlier p v all whole is = by (compressed_of p.body) refl
@@ -100,7 +97,7 @@ opened_becomes outs earlier p (Ok v) fits has = by (leb (length v.payload) 65487
     of_short : leb (length v.payload) 65487 ≡ true → datagram_of outs (plain_packet v) ≡ kept (in_opened (Ok v))
     of_short short =
         plain_has outs (plain_packet v) refl
-        ∙ (ap in_plain (plain_again (record { header = v.header; summed = true; payload = v.payload }) (fits v refl) (leb-le _ _ short)) ∙ rw short refl)
+        ∙ (ap in_plain (plain_again (record { header = v.header; summed = true; payload = v.payload }) (fits v refl) (leb-true (length v.payload) 65487 short)) ∙ rw short refl)
 
     by : (b : Bool) → leb (length v.payload) 65487 ≡ b → Becomes outs earlier p (cond b (Ok (plain_packet v)) (Err (end.TooLong (length v.payload))))
     by true short = of_short short ∙ sym (ap kept has)

@@ -1,15 +1,16 @@
 //! From header-compressed packets to plain ones.
 
-ghost use Rattle.std.specs.Prelude.{◌≡◌, ℕ, ◌+◌, ◌<◌, ◌≤◌, ◌^◌, ◌++◌, List, ◌∷◌, [], true, length, IfOk, OnOk, OnErr};
+ghost use Rattle.std.specs.Prelude.{◌≡◌, ℕ, ◌<◌, ◌^◌, List, ◌∷◌, [], length, Ok, IfOk, OnErr};
 ghost use Rattle.mmt_tlv.specs.Framing.{Packet, Fits, spelling};
 ghost use Rattle.mmt_tlv.specs.Cutting.{IsPacket};
-ghost use Rattle.mmt_ctx.specs.Headers.{opened_after, HasRead};
+ghost use Rattle.mmt_ctx.specs.Headers.{Header as Opened, opened_after, HasRead};
 ghost use Rattle.mmt_gate.specs.Expanding.{expanded_opened, expanded, Expands};
 
 use crate::writing::{put_as_it_is, put_plain};
 use mmt_base::{OutOfMemory, Refused};
 use mmt_ctx::{Contexts, CtxWhy};
 use mmt_hear::opened;
+use mmt_ip::Ip6Header;
 use std::alloc::Global;
 use std::marker::Model;
 
@@ -47,6 +48,24 @@ impl Model for Expander {
 // the two headers take 48.
 const LONGEST: usize = 65_487;
 
+// Appends what a packet with this header and this payload becomes.
+fn put_opened(out: &mut Vec<u8>, header: Ip6Header, payload: &[u8]) -> Result<(), ExpandEnd>
+    requires label { header.flow_label < 2 ^ 20 }
+    requires short { length payload.now < 2 ^ 16 }
+    ensures expands { (v : Opened) → v.header ≡ header → v.payload ≡ payload.now → Expands result out.old.items out.new.items (expanded_opened (Ok v)) }
+    ensures refused { OnErr result (out.new.items ≡ out.old.items) }
+{
+    if payload.len() > LONGEST {
+        return Err(ExpandEnd::TooLong {
+            length: payload.len() as u32,
+        });
+    }
+    match put_plain(out, header, payload) {
+        Ok(()) => Ok(()),
+        Err(_) => Err(ExpandEnd::OutOfMemory),
+    }
+}
+
 impl Expander {
     ghost use Rattle.mmt_hear.specs.Views.{HasHeard};
 
@@ -70,15 +89,7 @@ impl Expander {
             Ok(packet) => packet,
             Err(Refused { at, why }) => return Err(ExpandEnd::Refused { at, why }),
         };
-        if packet.payload.len() > LONGEST {
-            return Err(ExpandEnd::TooLong {
-                length: packet.payload.len() as u32,
-            });
-        }
-        match put_plain(out, packet.header, packet.payload) {
-            Ok(()) => Ok(()),
-            Err(_) => Err(ExpandEnd::OutOfMemory),
-        }
+        put_opened(out, packet.header, packet.payload)
     }
 
     /// Appends what the next TLV packet of the stream becomes, `tlv` being the whole packet: a
