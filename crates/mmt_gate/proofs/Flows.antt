@@ -2,7 +2,7 @@
 use Rattle.std.proofs.Common.{◌≡◌, ◌≢◌, ℕ, zero, suc, ◌+◌, ◌-◌, ◌<◌, ◌≤◌, Bool, true, false, cond, ◌&&◌, ◌||◌, eqb, ltb, List, [], ◌∷◌, ◌++◌, length, take, Option, Some, None, refl, sym, ap, ap₂, subst, ◌∙◌, arith, inl, inr, eq-eqb}
 use Rattle.std.specs.Prelude.{⊤, map, count_by, not}
 use Rattle.std.specs.List.{list_any, position, position_or_len}
-use Rattle.std.proofs.lemmas.Bool.{eqb-true, or_cases}
+use Rattle.std.proofs.lemmas.Bool.{eqb-true, lt-ltb}
 use Rattle.mmt_ip.specs.declared.packet.Ip6Header.{Ip6Header}
 use Rattle.mmt_gate.specs.Flows.{same, distinct}
 
@@ -78,7 +78,7 @@ one_more a n = by (ltb a n) (ltb (1 + a) (suc n)) refl refl
     by false true e f = absurd (grind (arith, e, f))
 
 first_step : (b : Bool) (a n : ℕ) → cond (ltb (cond (not b) (1 + a) 0) (suc n)) (Some (cond (not b) (1 + a) 0)) None ≡ cond b (Some 0) (next_place (cond (ltb a n) (Some a) None))
-first_step true a n = refl
+first_step true a n = rw (lt-ltb 0 (suc n) (omega arith)) refl
 first_step false a n = one_more a n
 
 pub position_is : {X : Type 0} (p : X → Bool) (xs : List X) → position p xs ≡ place p xs
@@ -201,7 +201,7 @@ apart h k hs old none = of (same h k) refl
     of false t = refl
 
 counted : (h k : Ip6Header) (hs : List Ip6Header) → same h k ≡ false → count_by (same h) hs ≡ 0 → count_by (same h) (k ∷ hs) ≡ 0
-counted h k hs no none = rw (no, none) refl
+counted h k hs differs none = rw (differs, none) refl
 
 -- a header that is none of the distinct ones was not seen
 pub unseen : (h : Ip6Header) (hs : List Ip6Header) → list_any (same h) (distinct hs) ≡ false → count_by (same h) hs ≡ 0

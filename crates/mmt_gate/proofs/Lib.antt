@@ -5,3 +5,5 @@ pub mod ExpandingKeeps
 pub mod Flows
 pub mod Spelled
 pub mod Expanded
+pub mod Squeezers
+pub mod Placing

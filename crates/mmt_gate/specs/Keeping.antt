@@ -1,9 +1,8 @@
 -- What a shrinker keeps: the headers that have a context, and the squeezer of each.
-use Rattle.std.specs.Prelude.{◌≡◌, ℕ, ◌+◌, ◌<◌, ◌≤◌, ◌%◌, List, [], ◌∷◌, map, Option, Result, count_by, IfOk}
-use Rattle.mmt_tlv.specs.Framing.{Packet}
+use Rattle.std.specs.Prelude.{◌≡◌, ℕ, ◌+◌, ◌<◌, ◌≤◌, ◌%◌, List, [], ◌∷◌, map, count_by, length, All}
 use Rattle.mmt_ip.specs.declared.packet.Ip6Header.{Ip6Header}
-use Rattle.mmt_ctx.specs.Squeezing.{Squeezing as Squeezer}
-use Rattle.mmt_gate.specs.Flows.{Options, same, headers, with_context, place_among}
+use Rattle.mmt_ctx.specs.Squeezing.{Squeezing as Squeezer, IsAtCall}
+use Rattle.mmt_gate.specs.Flows.{Options, same, with_context}
 use Rattle.mmt_gate.specs.declared.flow.Flow.{Flow}
 
 -- a header as what it is looked up by
@@ -34,9 +33,10 @@ pub record Knows (known hs : List Ip6Header) (s : Shrinking) : Type 0 where
 abbrev pub HasSqueezed : List Ip6Header → Shrinking → Type 0
 HasSqueezed hs s = Knows (with_context s.options hs) hs s
 
--- what always holds of a shrinker: its options are within their ranges, and some headers were squeezed
+-- What always holds of a shrinker: its options are within their ranges, each header that has a context has a squeezer, and each
+-- squeezer is before some call.
 pub record IsSound (s : Shrinking) : Type 0 where
   pub context : s.options.context < 4096
   pub full_every : 1 ≤ s.options.full_every
-  pub headers : List Ip6Header
-  pub squeezed : HasSqueezed headers s
+  pub pairs : length s.flows ≡ length s.squeezers
+  pub calls : All (λ q. (call : ℕ) × IsAtCall call q) s.squeezers

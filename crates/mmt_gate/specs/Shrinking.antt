@@ -17,9 +17,13 @@ use Rattle.mmt_gate.specs.declared.shrinker.ShrinkEnd.TheVariants as end
 abbrev pub squeezer_at : Options → ℕ → Ip6Header → Squeezer
 squeezer_at s place h = record { context = s.context + place; full_every = s.full_every; header = h; number = 0; since = 0 }
 
--- packet number `call` of a header, from 0: the body of that call of the header's squeezer; a header without a context stays as it is
+-- packet number `call`, from 0, of the header at a place: the body of that call of the header's squeezer
+abbrev pub squeezed_as : Options → ℕ → ℕ → Ip6Header → List ℕ → Packet
+squeezed_as s call place h payload = record { kind = 3; body = compressed_spelling (packet_at call (squeezer_at s place h) payload) }
+
+-- a packet of a header, where the header has a context; otherwise it stays as it is
 abbrev pub squeezed_at : Options → ℕ → Packet → Plain → Option ℕ → Packet
-squeezed_at s call packet v (Some place) = record { kind = 3; body = compressed_spelling (packet_at call (squeezer_at s place v.header) v.payload) }
+squeezed_at s call packet v (Some place) = squeezed_as s call place v.header v.payload
 squeezed_at s call packet v None = packet
 
 -- a packet of type 2 after the headers of the earlier ones; where it spells no IPv6 and UDP packet it stays as it is
@@ -44,3 +48,9 @@ abbrev pub Squeezes : {T : Type 0} → Result T ShrinkEnd → List ℕ → List 
 Squeezes (Ok done) old new wanted = (packet : Packet) × (wanted ≡ Ok packet) × (new ≡ old ++ spelling packet)
 Squeezes (Err end.Squeezed) old new wanted = (wanted ≡ Err end.Squeezed) × (new ≡ old)
 Squeezes (Err end.OutOfMemory) old new wanted = new ≡ old
+
+-- this holds after the answer, unless there was no memory
+abbrev pub IsGoing : {T : Type 0} → Result T ShrinkEnd → Type 0 → Type 0
+IsGoing (Ok done) P = P
+IsGoing (Err end.Squeezed) P = P
+IsGoing (Err end.OutOfMemory) P = Unit {0}

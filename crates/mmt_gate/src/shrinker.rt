@@ -1,12 +1,14 @@
 //! From plain packets to header-compressed ones.
 
-ghost use Rattle.std.specs.Prelude.{◌≡◌, ℕ, ◌+◌, ◌<◌, ◌≤◌, ◌^◌, ◌++◌, List, ◌∷◌, [], Some, length, slice_set, count_by, IfOk, OnOk, OnErr};
+ghost use Rattle.std.specs.Prelude.{◌≡◌, ℕ, ◌+◌, ◌<◌, ◌≤◌, ◌^◌, ◌++◌, List, ◌∷◌, [], Some, length, count_by, IfOk, IfSome, OnOk, OnErr};
 ghost use Rattle.mmt_tlv.specs.Framing.{Packet, Fits, spelling};
 ghost use Rattle.mmt_tlv.specs.Cutting.{IsPacket};
-ghost use Rattle.mmt_ip.specs.declared.packet.Ip6Header.{Ip6Header};
-ghost use Rattle.mmt_gate.specs.Flows.{same, headers, with_context, place_among};
+ghost use Rattle.std.specs.List.{cons_option};
+ghost use Rattle.mmt_ip.specs.declared.packet.Ip6Header.{Ip6Header as Header};
+ghost use Rattle.mmt_ip.specs.Reading.{packet_of as plain_of};
+ghost use Rattle.mmt_gate.specs.Flows.{same, header_read, headers, with_context, place_among};
 ghost use Rattle.mmt_gate.specs.Keeping.{Knows, HasSqueezed};
-ghost use Rattle.mmt_gate.specs.Shrinking.{squeezed, squeezed_plain, squeezed_at, Squeezes};
+ghost use Rattle.mmt_gate.specs.Shrinking.{squeezed_as, squeezed_plain, squeezed, Squeezes, IsGoing};
 
 use crate::flow::{Flow, flow_of};
 use crate::writing::{put_as_it_is, put_squeezed};
@@ -73,7 +75,8 @@ impl Shrinker {
     fn place(&mut self, header: Ip6Header) -> Result<Option<usize>, OutOfMemory>
         requires label { header.flow_label < 2 ^ 20 }
         ensures options { self.new.options ≡ self.old.options }
-        ensures found { (hs : List Ip6Header) → HasSqueezed hs self.old → IfOk result (λ place. Knows (with_context self.old.options (header ∷ hs)) hs self.new × (place ≡ place_among header (with_context self.old.options (header ∷ hs)))) }
+        ensures found { (hs : List Header) → HasSqueezed hs self.old → IfOk result (λ place. Knows (with_context self.old.options (header ∷ hs)) hs self.new × (place ≡ place_among header (with_context self.old.options (header ∷ hs)))) }
+        ensures within { IfOk result (λ place. IfSome place (λ i. i < length self.new.squeezers)) }
     {
         let flow = flow_of(&header);
         if let Some(place) = self.flows.get_index_of(&flow) {
@@ -93,16 +96,46 @@ impl Shrinker {
         Ok(Some(place))
     }
 
+    // Appends the packet that the squeezer at a place makes of a payload.
+    fn squeeze_at(
+        &mut self,
+        place: usize,
+        out: &mut Vec<u8>,
+        payload: &[u8],
+    ) -> Result<(), OutOfMemory>
+        requires within { place < length self.old.squeezers }
+        requires len { length payload.now ≤ 65487 }
+        ensures options { self.new.options ≡ self.old.options }
+        ensures packet { OnOk result ((hs : List Header) (header : Header) → Knows (with_context self.old.options (header ∷ hs)) hs self.old →
+            Some place ≡ place_among header (with_context self.old.options (header ∷ hs)) →
+            out.new.items ≡ out.old.items ++ spelling (squeezed_as self.old.options (count_by (same header) hs) place header payload.now)) }
+        ensures next { OnOk result ((hs : List Header) (header : Header) → Knows (with_context self.old.options (header ∷ hs)) hs self.old →
+            Some place ≡ place_among header (with_context self.old.options (header ∷ hs)) → HasSqueezed (header ∷ hs) self.new) }
+        ensures refused { OnErr result (out.new.items ≡ out.old.items) }
+    {
+        let _ = &self.flows;
+        put_squeezed(out, &mut self.squeezers[place], payload)
+    }
+
     // Appends what a packet of type 2 becomes, of which the body is given.
     fn plain(&mut self, out: &mut Vec<u8>, tlv: &[u8], body: &[u8]) -> Result<(), OutOfMemory>
         requires { length body.now < 2 ^ 16 }
+        ensures options { self.new.options ≡ self.old.options }
+        ensures packet { OnOk result ((hs : List Header) (packet : Packet) → HasSqueezed hs self.old → tlv.now ≡ spelling packet →
+            out.new.items ≡ out.old.items ++ spelling (squeezed_plain self.old.options hs packet (plain_of body.now))) }
+        ensures next { OnOk result ((hs : List Header) → HasSqueezed hs self.old → HasSqueezed (cons_option (header_read (plain_of body.now)) hs) self.new) }
+        ensures refused { OnErr result (out.new.items ≡ out.old.items) }
     {
         let packet = match read_ip6udp(body) {
             Ok(packet) => packet,
             Err(_) => return put_as_it_is(out, tlv),
         };
-        match self.place(packet.header)? {
-            Some(place) => put_squeezed(out, &mut self.squeezers[place], packet.payload),
+        let found = match self.place(packet.header) {
+            Ok(found) => found,
+            Err(reason) => return Err(reason),
+        };
+        match found {
+            Some(place) => self.squeeze_at(place, out, packet.payload),
             None => put_as_it_is(out, tlv),
         }
     }
@@ -118,14 +151,25 @@ impl Shrinker {
     /// the shrinker is used no more.
     pub fn next(&mut self, out: &mut Vec<u8>, tlv: &[u8]) -> Result<(), ShrinkEnd>
         requires { IsPacket tlv.now }
+        ensures options { self.new.options ≡ self.old.options }
+        // For every list of earlier packets, the newest of them first.
+        ensures squeezes { (earlier : List Packet) (packet : Packet) → Fits packet → tlv.now ≡ spelling packet → HasSqueezed (headers earlier) self.old →
+            Squeezes result out.old.items out.new.items (squeezed self.old.options earlier packet) }
+        ensures next { (earlier : List Packet) (packet : Packet) → Fits packet → tlv.now ≡ spelling packet → HasSqueezed (headers earlier) self.old →
+            IsGoing result (HasSqueezed (headers (packet ∷ earlier)) self.new) }
+        ensures refused { OnErr result (out.new.items ≡ out.old.items) }
     {
         let (kind, body) = opened(tlv);
-        let done = match kind {
-            0x02 => self.plain(out, tlv, body),
-            0x03 => return Err(ShrinkEnd::Squeezed),
-            _ => put_as_it_is(out, tlv),
-        };
-        match done {
+        if kind == 0x03 {
+            return Err(ShrinkEnd::Squeezed);
+        }
+        if kind == 0x02 {
+            return match self.plain(out, tlv, body) {
+                Ok(()) => Ok(()),
+                Err(_) => Err(ShrinkEnd::OutOfMemory),
+            };
+        }
+        match put_as_it_is(out, tlv) {
             Ok(()) => Ok(()),
             Err(_) => Err(ShrinkEnd::OutOfMemory),
         }

@@ -1,7 +1,7 @@
 use Rattle.std.proofs.Common.{◌≡◌, List, ℕ, Result, refl, subst, sym, arith}
 use Rattle.mmt_base.specs.declared.refused.Refused.{Refused}
 use Rattle.mmt_ctx.specs.declared.packet.CtxWhy.{CtxWhy}
-use Rattle.mmt_ctx.specs.Headers.{Header as Opened, view}
+use Rattle.mmt_ctx.specs.Headers.{Header as Opened, HasRead, view}
 use Rattle.mmt_gate.specs.Tables.{AllFit}
 use Rattle.mmt_gate.specs.Expanding.{Expands, expanded_opened}
 use Rattle.mmt_gate.proofs.Tables.{after_fits, opened_fits}
@@ -20,4 +20,4 @@ invariant_of-self-2 c = subst AllFit (sym c.read.ensures.kept) (after_fits c.sel
 pub returns-clause-expands : goal.returns-clause-expands
 returns-clause-expands c = λ earlier has.
     subst (λ (w : Result Opened (Refused CtxWhy)). Expands c.put_opened.result c.args.out.now.items c.put_opened.new.out.items (expanded_opened w))
-    (sym (c.in-Ok.ensures.back earlier has)) (c.put_opened.ensures.expands (view c.in-Ok.packet) refl refl)
+    (sym (c.in-Ok.ensures.back earlier (subst (λ t. HasRead earlier t) (sym c.self.view_is) has))) (c.put_opened.ensures.expands (view c.in-Ok.packet) refl refl)
