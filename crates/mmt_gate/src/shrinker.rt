@@ -114,7 +114,10 @@ impl Shrinker {
         ensures refused { OnErr result (out.new.items ≡ out.old.items) }
     {
         let _ = &self.flows;
-        put_squeezed(out, &mut self.squeezers[place], payload)
+        match put_squeezed(out, &mut self.squeezers[place], payload) {
+            Ok(()) => Ok(()),
+            Err(reason) => Err(reason),
+        }
     }
 
     // Appends what a packet of type 2 becomes, of which the body is given.

@@ -1,5 +1,6 @@
-use Rattle.std.proofs.Common.{rules, ℕ, ◌<◌, List, length, get_or, refl, arith, ap, ◌∙◌, sym}
-use Rattle.mmt_gate.proofs.Placing.{begun, place_found, place_full, place_new}
+use Rattle.std.proofs.Common.{rules, ℕ}
+use Rattle.mmt_ctx.specs.Squeezing.{Squeezing as Squeezer, IsAtCall}
+use Rattle.mmt_gate.proofs.Placing.{begun, none_at_all}
 use Rattle.mmt_gate.proofs.shrinker.Shrinker.new.Goals as goal
 
 pub invariant_of-result : goal.invariant_of-result
@@ -7,7 +8,7 @@ invariant_of-result c = record {
   context = c.requires.context;
   full_every = c.requires.every;
   pairs = search rules;
-  calls = λ k d lt. ?;
+  calls = none_at_all (λ (q : Squeezer). (call : ℕ) × IsAtCall call q) c.new-2.result.items (search rules);
 }
 
 pub returns-clause-none : goal.returns-clause-none
