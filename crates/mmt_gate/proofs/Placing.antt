@@ -10,6 +10,7 @@ use Rattle.mmt_gate.specs.Keeping.{flow_of, Shrinking, squeezer_after, squeezers
 use Rattle.mmt_gate.proofs.Flows.{same_self, place, position_is, place_map, unplaced, place_last}
 use Rattle.mmt_gate.proofs.Squeezers.{length_squeezers, squeezers_last, known_old, known_new, known_full, squeezer_there, squeezers_next, squeezers_other, none_known_twice}
 use Rattle.std.proofs.lemmas.List.{length-append, map-append}
+use Rattle.std.proofs.lemmas.List.Sums.{sum_by-cons}
 
 take_none : (n : ℕ) → take {A = Ip6Header} n [] ≡ []
 take_none zero = refl
@@ -107,7 +108,11 @@ at_count : (o : Options) (hs : List Ip6Header) (context : ℕ) (h : Ip6Header) (
 at_count o hs context h q is = subst (λ (x : Squeezer). IsAtCall (count_by (same h) hs) x) (sym is) (record { number = refl; since = refl })
 
 counted_next : (hs : List Ip6Header) (h : Ip6Header) → count_by (same h) hs + 1 ≡ count_by (same h) (h ∷ hs)
-counted_next hs h = rw (same_self h) (omega arith)
+counted_next hs h =
+    let unit : ℕ = 1 in
+    let none : ℕ = 0 in
+    let one : cond (same h h) unit none ≡ unit = ap (λ (b : Bool). cond b unit none) (same_self h) in
+    omega (arith, sum_by-cons (λ (x : Ip6Header). cond (same h x) 1 0) h hs, one)
 
 made_of : (r : Squeezer) (context full_every number since : ℕ) (h : Ip6Header) → r.context ≡ context → r.full_every ≡ full_every → r.header ≡ h → r.number ≡ number → r.since ≡ since
     → r ≡ record { context = context; full_every = full_every; header = h; number = number; since = since }

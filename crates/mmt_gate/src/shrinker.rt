@@ -114,10 +114,8 @@ impl Shrinker {
         ensures refused { OnErr result (out.new.items ≡ out.old.items) }
     {
         let _ = &self.flows;
-        match put_squeezed(out, &mut self.squeezers[place], payload) {
-            Ok(()) => Ok(()),
-            Err(reason) => Err(reason),
-        }
+        put_squeezed(out, &mut self.squeezers[place], payload)?;
+        Ok(())
     }
 
     // Appends what a packet of type 2 becomes, of which the body is given.
