@@ -7,3 +7,4 @@ pub mod Spelled
 pub mod Expanded
 pub mod Squeezers
 pub mod Placing
+pub mod Squeezed

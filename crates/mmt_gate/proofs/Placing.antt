@@ -1,6 +1,6 @@
 -- The place of a header's squeezer.
 use Rattle.std.proofs.Common.{◌≡◌, ℕ, zero, suc, ◌+◌, ◌-◌, ◌<◌, ◌≤◌, ◌%◌, Bool, true, false, cond, eqb, List, [], ◌∷◌, ◌++◌, length, take, set, get_or, Option, Some, None, refl, sym, ap, ap₂, subst, ◌∙◌, arith}
-use Rattle.std.specs.Prelude.{map, count_by, All, ◌&&◌}
+use Rattle.std.specs.Prelude.{map, count_by, All, ◌&&◌, Result, Ok, Err, OnOk}
 use Rattle.std.specs.List.{list_any, position}
 use Rattle.mmt_ip.specs.declared.packet.Ip6Header.{Ip6Header}
 use Rattle.mmt_ctx.specs.Squeezing.{Squeezing as Squeezer, IsAtCall}
@@ -152,3 +152,17 @@ next_after s t hs h i q r knows at is options flows squeezers goes kept =
       flows = flows ∙ knows.flows;
       squeezers = all ∙ ap (λ (o : Options). squeezers_after o (h ∷ hs) o.context known) (sym options);
     })
+
+-- no context is left for a header: nothing changes
+pub none_next : (s t : Shrinking) (hs : List Ip6Header) (h : Ip6Header) → t.options ≡ s.options → Knows (with_context s.options (h ∷ hs)) hs t → None ≡ place_among h (with_context s.options (h ∷ hs)) → HasSqueezed (h ∷ hs) t
+none_next s t hs h options knows at =
+    let known : List Ip6Header = with_context s.options (h ∷ hs) in
+    let absent : list_any (same h) known ≡ false = unplaced (same h) known (sym (at ∙ position_is (same h) known)) in
+    subst (λ (o : Options). Knows (with_context o (h ∷ hs)) (h ∷ hs) t) (sym options) (record {
+      flows = knows.flows;
+      squeezers = knows.squeezers ∙ sym (squeezers_other t.options hs t.options.context known h absent);
+    })
+
+pub on_ok : {T E : Type 0} (r : Result T E) (P : Type 0) → P → OnOk r P
+on_ok (Ok x) P holds = holds
+on_ok (Err e) P holds = tt
