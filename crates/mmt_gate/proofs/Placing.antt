@@ -64,8 +64,7 @@ place_new s t hs h q agree has at room f f_is options flows squeezers =
     let many : length s.squeezers ≡ length known = as_many s hs known has in
     let grown = known_new s.options hs h there (omega (arith, many, room)) in
     let absent : list_any q s.flows ≡ false = unplaced q s.flows (sym (at ∙ position_is q s.flows)) in
-    let made : squeezer_after s.options hs (s.options.context + length known) h ≡ record { context = s.options.context + length s.squeezers; full_every = s.options.full_every; header = h; number = 0; since = 0 } = made_is s.options hs h (length known) (length s.squeezers) grown.1 (sym many) in
-    (
+    let made : squeezer_after s.options hs (s.options.context + length known) h ≡ record { context = s.options.context + length s.squeezers; full_every = s.options.full_every; header = h; number = 0; since = 0 } = made_is s.options hs h (length known) (length s.squeezers) grown.1 (sym many) in (
       subst (λ (k : List Ip6Header). Knows k hs t) (sym grown.0) (record {
         flows = flows ∙ (ap₂ (λ (b : Bool) (x : Flow). cond b s.flows (s.flows ++ x ∷ [])) absent f_is ∙ (ap (λ (f : List Flow). f ++ flow_of h ∷ []) has.flows ∙ sym (map-append flow_of known (h ∷ []))));
         squeezers = squeezers ∙ (ap (λ (x : List Squeezer). x ++ (record { context = s.options.context + length s.squeezers; full_every = s.options.full_every; header = h; number = 0; since = 0 }) ∷ []) has.squeezers
@@ -140,14 +139,14 @@ next_after s t hs h i q r knows at is options flows squeezers goes kept =
     let count : count_by (same h) hs + 1 ≡ count_by (same h) (h ∷ hs) = counted_next hs h in
     let every : r.full_every ≡ s.options.full_every = kept.1 ∙ ap (λ (x : Squeezer). x.full_every) old in
     let made : r ≡ squeezer_after s.options (h ∷ hs) (s.options.context + i) h =
-        made_of r (s.options.context + i) s.options.full_every (count_by (same h) (h ∷ hs) % 16) (count_by (same h) (h ∷ hs) % s.options.full_every) h
-        (kept.0 ∙ ap (λ (x : Squeezer). x.context) old) every (kept.2 ∙ ap (λ (x : Squeezer). x.header) old)
-        (call.number ∙ ap (λ (n : ℕ). n % 16) count)
-        (call.since ∙ (ap (λ (n : ℕ). (count_by (same h) hs + 1) % n) every ∙ ap (λ (n : ℕ). n % s.options.full_every) count)) in
+    made_of r (s.options.context + i) s.options.full_every (count_by (same h) (h ∷ hs) % 16) (count_by (same h) (h ∷ hs) % s.options.full_every) h
+    (kept.0 ∙ ap (λ (x : Squeezer). x.context) old) every (kept.2 ∙ ap (λ (x : Squeezer). x.header) old)
+    (call.number ∙ ap (λ (n : ℕ). n % 16) count)
+    (call.since ∙ (ap (λ (n : ℕ). (count_by (same h) hs + 1) % n) every ∙ ap (λ (n : ℕ). n % s.options.full_every) count)) in
     let there : place (same h) known ≡ Some i = sym (at ∙ position_is (same h) known) in
     let all : t.squeezers ≡ squeezers_after s.options (h ∷ hs) s.options.context known =
-        squeezers ∙ (ap₂ (λ (x : List Squeezer) (y : Squeezer). set x i y) knows.squeezers made
-        ∙ squeezers_next s.options hs s.options.context known h i (none_known_twice s.options (h ∷ hs)) there) in
+    squeezers ∙ (ap₂ (λ (x : List Squeezer) (y : Squeezer). set x i y) knows.squeezers made
+    ∙ squeezers_next s.options hs s.options.context known h i (none_known_twice s.options (h ∷ hs)) there) in
     subst (λ (o : Options). Knows (with_context o (h ∷ hs)) (h ∷ hs) t) (sym options) (record {
       flows = flows ∙ knows.flows;
       squeezers = all ∙ ap (λ (o : Options). squeezers_after o (h ∷ hs) o.context known) (sym options);

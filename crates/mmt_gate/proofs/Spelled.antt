@@ -16,6 +16,9 @@ plain_written old mid new v first second =
 pub squeezed_begun : (old mid new : List ℕ) (place : ℕ) (body : List ℕ) → place ≡ length old → mid ≡ old ++ (127 ∷ 3 ∷ 0 ∷ 0 ∷ []) → new ≡ mid ++ body → length body < 65536
     → (o b : List ℕ) × (length o ≡ place) × (length b < 65536) × (new ≡ o ++ (127 ∷ 3 ∷ 0 ∷ 0 ∷ b))
 squeezed_begun old mid new place body at first second short = (
-  old, body, sym at, short,
+  old,
+  body,
+  sym at,
+  short,
   second ∙ (ap (λ (m : List ℕ). m ++ body) first ∙ append_assoc old (127 ∷ 3 ∷ 0 ∷ 0 ∷ []) body),
 )

@@ -120,7 +120,7 @@ known_new o hs h none lt =
     let all : with_context o hs ≡ distinct hs = all_taken (4096 - o.context) (distinct hs) lt in
     let absent : list_any (same h) (distinct hs) ≡ false = subst (λ (ds : List Ip6Header). list_any (same h) ds ≡ false) all (unplaced (same h) (with_context o hs) none) in (
       ap (λ (ds : List Ip6Header). take (4096 - o.context) ds) (distinct_new h hs absent)
-      ∙ (take_long (4096 - o.context) (distinct hs ++ h ∷ []) (omega (arith, length-append (distinct hs) (h ∷ []), ap (λ (ds : List Ip6Header). length ds) all, lt)) ∙ ap (λ (ds : List Ip6Header). ds ++ h ∷ []) (sym all)),
+          ∙ (take_long (4096 - o.context) (distinct hs ++ h ∷ []) (omega (arith, length-append (distinct hs) (h ∷ []), ap (λ (ds : List Ip6Header). length ds) all, lt)) ∙ ap (λ (ds : List Ip6Header). ds ++ h ∷ []) (sym all)),
       unseen h hs absent,
     )
 

@@ -1,15 +1,10 @@
-//! What a gateway keeps of a stream: its datagrams. Each law is the contract of a function that does
-//! nothing.
+//! What a gateway keeps of a stream: its datagrams. The law is the contract of a function that
+//! does nothing.
 
-ghost use Rattle.mmt_gate.specs.Promises.{ExpandingKeepsDatagrams, SqueezingKeepsDatagrams};
+ghost use Rattle.mmt_gate.specs.Promises.{ExpandingKeepsDatagrams};
 
 /// The datagrams of an expanded stream are those of the stream with at most 65,487 payload bytes, in
 /// their order.
 pub fn expanding_keeps_datagrams()
     ensures { ExpandingKeepsDatagrams }
-{}
-
-/// The datagrams of a squeezed stream are those of the stream's packets of type 2, in their order.
-pub fn squeezing_keeps_datagrams()
-    ensures { SqueezingKeepsDatagrams }
 {}

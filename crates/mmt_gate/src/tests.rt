@@ -240,9 +240,21 @@ fn payloads_that_just_fit_a_plain_packet(rt: HostRuntime) -> Result<(), Fail> {
     let alloc = rt.alloc();
     let mut expander = Expander::new(alloc)?;
     let too_long = ExpandEnd::TooLong { length: 65_488 };
-    assert_eq!(rt; expanded(alloc, &mut expander, true, 65_488)?, (Err(too_long), 0));
-    assert_eq!(rt; expanded(alloc, &mut expander, false, 65_487)?, (Ok(()), 65_539));
-    assert_eq!(rt; expanded(alloc, &mut expander, false, 65_488)?, (Err(too_long), 0));
-    assert_eq!(rt; expanded(alloc, &mut expander, true, 65_487)?, (Ok(()), 65_539));
+    assert_eq!(rt;
+        expanded(alloc, &mut expander, true, 65_488)?,
+        (Err(too_long), 0)
+    );
+    assert_eq!(rt;
+        expanded(alloc, &mut expander, false, 65_487)?,
+        (Ok(()), 65_539)
+    );
+    assert_eq!(rt;
+        expanded(alloc, &mut expander, false, 65_488)?,
+        (Err(too_long), 0)
+    );
+    assert_eq!(rt;
+        expanded(alloc, &mut expander, true, 65_487)?,
+        (Ok(()), 65_539)
+    );
     Ok(())
 }

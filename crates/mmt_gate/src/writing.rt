@@ -33,11 +33,7 @@ fn put_header(out: &mut Vec<u8>, kind: u8, length: usize) -> Result<(), OutOfMem
 
 /// Appends a TLV packet of type 2 with this header, this payload of at most 65,487 bytes, and the
 /// checksum (RFC 8200, RFC 768). After a refusal `out` is as it was.
-pub fn put_plain(
-    out: &mut Vec<u8>,
-    header: Ip6Header,
-    payload: &[u8],
-) -> Result<(), OutOfMemory>
+pub fn put_plain(out: &mut Vec<u8>, header: Ip6Header, payload: &[u8]) -> Result<(), OutOfMemory>
     requires label { header.flow_label < 2 ^ 20 }
     requires len { length payload.now ≤ 65487 }
     ensures ok { OnOk result (out.new.items ≡ out.old.items ++ spelling (record { kind = 2; body = plain_spelling (record { header = header; summed = true; payload = payload.now }) })) }

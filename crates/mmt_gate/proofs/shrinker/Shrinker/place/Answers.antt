@@ -38,7 +38,7 @@ returns-clause-found c = λ hs has.
     let v : Shrinking = the_view c.self.inside in
     let t : Shrinking = the_view (record { context = c.self.inside.context; full_every = c.self.inside.full_every; flows = c.insert.new.self; squeezers = c.push.new.self }) in
     let f = place_new v t hs c.args.header _ (λ g. agrees c.flow_of-flow.result c.args.header g c.flow_of-flow.ensures) (subst (λ (s : Shrinking). HasSqueezed hs s) (sym c.self.view_is) has) (sym c.in_default.is ∙ c.get_index_of.ensures.index)
-        (omega (arith, c.if-context-ge-CONTEXTS.false, c.len-place.ensures)) c.flow_of-flow.result c.flow_of-flow.ensures refl c.in_default-insert.ensures.keys (pushed c ∙ ap (λ (x : Squeezer). c.self.inside.squeezers.items ++ x ∷ []) (c.new-squeezer.ensures.made ∙ ap (λ (n : ℕ). squeezer c n) (context_is c))) in
+    (omega (arith, c.if-context-ge-CONTEXTS.false, c.len-place.ensures)) c.flow_of-flow.result c.flow_of-flow.ensures refl c.in_default-insert.ensures.keys (pushed c ∙ ap (λ (x : Squeezer). c.self.inside.squeezers.items ++ x ∷ []) (c.new-squeezer.ensures.made ∙ ap (λ (n : ℕ). squeezer c n) (context_is c))) in
     let g : Found c.args.header hs (Some c.len-place.result) v t = (f.0, ap Some (len_is c) ∙ f.1) in
     subst (λ (s : Shrinking). Found c.args.header hs (Some c.len-place.result) s t) c.self.view_is g
 

@@ -1,4 +1,0 @@
-pub mod Noting
-pub mod Gathering
-pub mod Passing
-pub mod PassingGrows
