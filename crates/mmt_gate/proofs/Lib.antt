@@ -1,0 +1,10 @@
+pub mod Lengths
+pub mod Tables
+pub mod Datagrams
+pub mod ExpandingKeeps
+pub mod Flows
+pub mod Spelled
+pub mod Expanded
+pub mod Squeezers
+pub mod Placing
+pub mod Squeezed
