@@ -81,7 +81,13 @@ pub fn run_within<P: Port, H: Shelf>(
             take_within(alloc, port, configured(&options), limit)
         }
         Ok(Command::Mux) => mux_within(alloc, words[1].as_str(), port, shelf),
-        Ok(Command::Trial) => trial_within(alloc, words[1].as_str(), words[2].as_str(), port, shelf),
+        Ok(Command::Trial) => trial_within(
+            alloc,
+            words[1].as_str(),
+            words[2].as_str(),
+            port,
+            shelf,
+        ),
         Ok(Command::Make { seed }) => make_within(alloc, seed, port),
         Err(index) => Status::Usage { index },
     }

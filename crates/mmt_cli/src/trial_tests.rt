@@ -13,13 +13,7 @@ const TRIAL: &[&str] = &["trial", "plan.json", "list"];
 
 // A port without input.
 fn port(alloc: Global) -> Result<MemoryPort, Fail> {
-    Ok(MemoryPort::new(
-        alloc,
-        Vec::new(alloc),
-        100,
-        10_000,
-        Vec::new(alloc),
-    )?)
+    Ok(MemoryPort::new(alloc, Vec::new(alloc), 100, 10_000, Vec::new(alloc))?)
 }
 
 // The shelf with the worked plan, of which one place is changed, its file, and a list of deliveries. This read fails.
@@ -49,7 +43,8 @@ fn tried(alloc: Global, change: (&str, &str), list: &str) -> Result<MemoryPort, 
 #[test]
 fn a_lost_part_loses_its_unit(rt: HostRuntime) -> Result<(), Fail> {
     let port = tried(rt.alloc(), ("", ""), "0\n1\n2\n4\n5\n")?;
-    let line = "sent 6 delivered 5 units 1 expected 1 bytes 500 peak 2267 bound 4000 late 0 repeat 0 full 0\n";
+    let line =
+        "sent 6 delivered 5 units 1 expected 1 bytes 500 peak 2267 bound 4000 late 0 repeat 0 full 0\n";
     assert_eq!(rt; port.written(), line.as_bytes());
     assert_eq!(rt; port.noted().len(), 0);
     Ok(())
@@ -59,7 +54,8 @@ fn a_lost_part_loses_its_unit(rt: HostRuntime) -> Result<(), Fail> {
 fn parts_after_the_delay_are_late(rt: HostRuntime) -> Result<(), Fail> {
     let short = ("\"delay\":1000", "\"delay\":80");
     let port = tried(rt.alloc(), short, "0\n1\n5\n2\n3\n4\n")?;
-    let line = "sent 6 delivered 6 units 1 expected 1 bytes 500 peak 845 bound 4000 late 2 repeat 0 full 0\n";
+    let line =
+        "sent 6 delivered 6 units 1 expected 1 bytes 500 peak 845 bound 4000 late 2 repeat 0 full 0\n";
     assert_eq!(rt; port.written(), line.as_bytes());
     Ok(())
 }
@@ -67,7 +63,8 @@ fn parts_after_the_delay_are_late(rt: HostRuntime) -> Result<(), Fail> {
 #[test]
 fn a_packet_before_tuning_is_not_kept(rt: HostRuntime) -> Result<(), Fail> {
     let port = tried(rt.alloc(), ("", ""), "3\n0\n1\n2\n4\n5\n")?;
-    let line = "sent 6 delivered 6 units 1 expected 1 bytes 500 peak 2267 bound 4000 late 0 repeat 0 full 0\n";
+    let line =
+        "sent 6 delivered 6 units 1 expected 1 bytes 500 peak 2267 bound 4000 late 0 repeat 0 full 0\n";
     assert_eq!(rt; port.written(), line.as_bytes());
     Ok(())
 }
@@ -87,9 +84,18 @@ fn told(alloc: Global, list: &str) -> Result<String, Fail> {
 #[test]
 fn tells_the_first_line_that_is_no_place(rt: HostRuntime) -> Result<(), Fail> {
     let alloc = rt.alloc();
-    assert_eq!(rt; told(alloc, "6\n")?.as_str(), "plan: list-line at line 0 0 0 field 0");
-    assert_eq!(rt; told(alloc, "0\n5\n05\n")?.as_str(), "plan: list-line at line 2 0 0 field 0");
-    assert_eq!(rt; told(alloc, "0\n5")?.as_str(), "plan: list-line at line 1 0 0 field 0");
+    assert_eq!(rt;
+        told(alloc, "6\n")?.as_str(),
+        "plan: list-line at line 0 0 0 field 0"
+    );
+    assert_eq!(rt;
+        told(alloc, "0\n5\n05\n")?.as_str(),
+        "plan: list-line at line 2 0 0 field 0"
+    );
+    assert_eq!(rt;
+        told(alloc, "0\n5")?.as_str(),
+        "plan: list-line at line 1 0 0 field 0"
+    );
     Ok(())
 }
 
@@ -135,7 +141,8 @@ fn makes_a_programme_of_a_minute(rt: HostRuntime) -> Result<(), Fail> {
     let mut port = port(alloc)?;
     let words = words(alloc, &["make", "7"])?;
     assert_eq!(rt; run(alloc, &words, &mut port, &mut shelf), Status::Done);
-    let line = "sent 12004 delivered 12364 units 4321 expected 4321 bytes 10373000 peak 374714 bound 400000 late 0 repeat 600 full 0\n";
+    let line =
+        "sent 12004 delivered 12364 units 4321 expected 4321 bytes 10373000 peak 374714 bound 400000 late 0 repeat 600 full 0\n";
     assert_eq!(rt; port.written(), line.as_bytes());
     Ok(())
 }
