@@ -38,6 +38,13 @@ commands:
             of TLV packets to standard output. The plan, the lengths of what is sent, the files and the admission are
             checked in this order, and nothing is written where a check fails
             (no options; standard input is not read)
+  trial PLAN LIST
+            sends what mux PLAN sends into memory, gives a receiver of the programme the packets whose places the file LIST
+            names, a decimal number and a line feed for each, in that order, and writes one line of what came out:
+            sent N delivered N units N expected N bytes N peak N bound N late N repeat N full N
+            (no options; standard input is not read; LIST has at most 16777216 bytes)
+  make N    the same of a programme and a list that come from the number N, 0 to 65535
+            (no options; standard input is not read)
 
 statuses, and what is printed on standard error after 'mmt: ':
   0         done
@@ -47,8 +54,8 @@ statuses, and what is printed on standard error after 'mmt: ':
   4         broken: cut at P        the input ends within the packet at P
             broken: sync at P       the byte at P should be 7F and is not
   5         plan: REASON at PART A B C field F
-                                    the plan or one of its files is refused: PART is top, signal, asset, mpu, au or unit,
-                                    A, B and C count from 0, and F is the member's number from 1 on, or 0
+                                    the plan, one of its files or the list is refused: PART is top, signal, asset, mpu, au,
+                                    unit or line, A, B and C count from 0, and F is the member's number from 1 on, or 0
   6         not admitted: RULE N FOUND ALLOWED
                                     what would be sent breaks a rule, A1 to A10, first at number N
   7         out of memory
