@@ -1,13 +1,14 @@
 """checks/mutations.py PROGRAM [--minutes M] [--seed S]: damaged streams and plans through every command.
 
 It flips, cuts, repeats and joins bytes of the example's stream and of streams that `mux` makes, and bytes and numbers of the example's plan, and
-runs the commands on them. Each run must end with a status of the program within a second for each megabyte and two more, without a
-signal; `take` and `peak` must keep within their bound; `mux` must write nothing of what it refuses. It prints its seed and how many it ran."""
+runs the commands on them. Each run must end with a status of the program within one second of the processor for each megabyte and two
+more, without a signal; `take` and `peak` must keep within their bound; `mux` must write nothing of what it refuses. It prints its seed and how many it ran."""
 import argparse
 import json
 import os
 import random
 import re
+import resource
 import subprocess
 import sys
 import tempfile
@@ -104,6 +105,12 @@ def other_number(rng, plan):
     return json.dumps(plan).encode()
 
 
+def used():
+    """The processor's seconds of all runs that have ended."""
+    usage = resource.getrusage(resource.RUSAGE_CHILDREN)
+    return usage.ru_utime + usage.ru_stime
+
+
 def main():
     options = argparse.ArgumentParser()
     options.add_argument('program')
@@ -119,13 +126,16 @@ def main():
 
     def run(words, data):
         nonlocal failed, longest
-        began = time.monotonic()
+        before = used()
         limit = 2 + len(data) / 1e6
         try:
-            done = subprocess.run([program] + words, input=data, capture_output=True, cwd=folder, timeout=limit)
+            done = subprocess.run([program] + words, input=data, capture_output=True, cwd=folder, timeout=60 + limit)
         except subprocess.TimeoutExpired:
             done = None
-        longest = max(longest, time.monotonic() - began)
+        seconds = used() - before
+        longest = max(longest, seconds)
+        if seconds > limit:
+            done = None
         key = words[0] if done is None or done.returncode not in STATUSES else f'{words[0]} status {done.returncode}'
         counts[key] = counts.get(key, 0) + 1
         if done is None or done.returncode not in STATUSES:
