@@ -100,6 +100,13 @@ returns-in-Ok-Take-clause-gives_back g c = λ told asked asks.
     (given_back c.take_gives_back.ensures (config_of c.in-Ok-Take.options) c.args.limit c.take_within.result old new
     (subst (λ (k : Config). Takes k c.args.limit c.take_within.result old new) c.configured.ensures (c.take_within.ensures.takes told)))
 
+pub returns-in-Ok-Make-clause-promise : goal.returns-in-Ok-Make-clause-promise
+returns-in-Ok-Make-clause-promise g c = λ told asked asks.
+    let old : Moment = moment (g.P.Port.history c.args.port.now) (g.P.Port.left c.args.port.now) (g.P.Port.read_faults c.args.port.now) (g.P.Port.write_faults c.args.port.now) in
+    let new : Moment = moment (g.P.Port.history c.make_within.new.port) (g.P.Port.left c.make_within.new.port) (g.P.Port.read_faults c.make_within.new.port) (g.P.Port.write_faults c.make_within.new.port) in
+    let make : Asks (command.Make c.in-Ok-Make.seed) (texts c.args.words.now) = subst (λ k. Asks k (texts c.args.words.now)) c.in-Ok-Make.field-0-is c.in-Ok-Make.ensures.command in
+    subst (λ k. Promises k c.args.limit c.make_within.result old new) (asks_once (command.Make c.in-Ok-Make.seed) asked (texts c.args.words.now) make asks) (c.make_within.ensures.makes told)
+
 pub returns-in-Err-clause-only_usage : goal.returns-in-Err-clause-only_usage
 returns-in-Err-clause-only_usage g c = λ index wrong. ap (λ i. status.Usage i) (wrong_once IsCommand (texts c.args.words.now) c.in-Err.index index c.in-Err.ensures.wrong wrong)
 
