@@ -89,7 +89,7 @@ pub place_map : {X Y : Type 0} (f : X → Y) (p : X → Bool) (q : Y → Bool) �
 place_map f p q agree [] = refl
 place_map f p q agree (x ∷ xs) = ap₂ (λ (b : Bool) (o : Option ℕ). cond b (Some 0) (next_place o)) (agree x) (place_map f p q agree xs)
 
-some_is : (a b : ℕ) → Some a ≡ Some b → a ≡ b
+pub some_is : (a b : ℕ) → Some a ≡ Some b → a ≡ b
 some_is a b e = cc
 
 -- what a first place says

@@ -16,7 +16,7 @@ take_none : (n : ℕ) → take {A = Ip6Header} n [] ≡ []
 take_none zero = refl
 take_none (suc n) = refl
 
-none_first : (o : Options) → with_context o [] ≡ []
+pub none_first : (o : Options) → with_context o [] ≡ []
 unfolding distinct
 none_first o = take_none (4096 - o.context)
 
