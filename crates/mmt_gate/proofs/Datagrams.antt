@@ -1,20 +1,17 @@
 -- The datagrams of packets, type by type.
-use Rattle.std.proofs.Common.{◌≡◌, ◌≢◌, ℕ, zero, suc, ◌+◌, ◌<◌, ◌≤◌, ◌^◌, Bool, true, false, eqb, List, [], ◌∷◌, length, get_or, Option, Some, None, Result, Ok, Err, refl, sym, ap, subst, ◌∙◌, arith, eq-eqb, inl, inr}
-use Rattle.std.specs.Prelude.{All, ⊤, map, IfSome}
-use Rattle.std.specs.List.{AllByRecursion, cons_option, filter}
+use Rattle.std.proofs.Common.{◌≡◌, ℕ, suc, ◌<◌, ◌≤◌, true, false, eqb, List, [], ◌∷◌, length, None, Ok, refl, ap, arith, inl, inr}
+use Rattle.std.specs.Prelude.{All}
+use Rattle.std.specs.List.{AllByRecursion}
 use Rattle.std.proofs.lemmas.Bool.{eqb-true, ne_eqb, cases_lt}
 use Rattle.std.proofs.lemmas.List.{get_or_past}
-use Rattle.mmt_base.specs.declared.refused.Refused.{Refused}
 use Rattle.mmt_fields.proofs.Codec.{IsBytes}
 use Rattle.mmt_tlv.specs.Framing.{Packet}
-use Rattle.mmt_ip.specs.declared.packet.Ip6Header.{Ip6Header}
-use Rattle.mmt_ip.specs.declared.packet.IpWhy.{IpWhy}
 use Rattle.mmt_ip.specs.Spelling.{HeaderFits, Value as Plain, Fits as PlainFits, spelling as plain_spelling}
 use Rattle.mmt_ip.specs.Reading.{packet_of as plain_of}
 use Rattle.mmt_ip.proofs.Law.{packet_format}
 use Rattle.mmt_ctx.specs.Headers.{opened_after}
 use Rattle.mmt_hear.specs.Hearing.{compressed_bodies}
-use Rattle.mmt_gate.specs.Datagrams.{Datagram, in_plain, in_opened, datagram_of}
+use Rattle.mmt_gate.specs.Datagrams.{in_plain, in_opened, datagram_of}
 use Rattle.mmt_gate.specs.Promises.{IsWhole}
 use Rattle.mmt_gate.proofs.Lengths.{length_plain}
 

@@ -1,5 +1,5 @@
 -- What packets become when they are expanded.
-use Rattle.std.proofs.Common.{◌≡◌, ◌≢◌, ℕ, ◌≤◌, true, eqb, leb, List, ◌++◌, length, Result, Ok, refl, sym, ap, ◌∙◌, arith, eq-eqb}
+use Rattle.std.proofs.Common.{◌≡◌, ◌≢◌, ℕ, ◌≤◌, true, List, ◌++◌, length, Ok, refl, sym, ap, ◌∙◌, arith, eq-eqb}
 use Rattle.std.proofs.lemmas.Bool.{le-leb, ne_eqb}
 use Rattle.mmt_tlv.specs.Framing.{Packet, spelling}
 use Rattle.mmt_ip.specs.declared.packet.Ip6Header.{Ip6Header}

@@ -1,6 +1,6 @@
 -- Expanding keeps the datagrams that fit a plain packet.
-use Rattle.std.proofs.Common.{◌≡◌, ℕ, ◌+◌, ◌<◌, ◌≤◌, Bool, true, false, cond, eqb, leb, List, [], ◌∷◌, length, Option, Some, None, Result, Ok, Err, refl, sym, ap, ap₂, subst, ◌∙◌, arith}
-use Rattle.std.specs.Prelude.{All, ⊤, map, IfSome}
+use Rattle.std.proofs.Common.{◌≡◌, ℕ, Bool, true, false, cond, eqb, leb, List, [], ◌∷◌, length, Option, Some, None, Result, Ok, Err, refl, sym, ap, ap₂, subst, ◌∙◌}
+use Rattle.std.specs.Prelude.{map, IfSome}
 use Rattle.std.specs.List.{AllByRecursion, cons_option, filter}
 use Rattle.std.proofs.lemmas.Bool.{le-leb, leb-true}
 use Rattle.mmt_base.specs.declared.refused.Refused.{Refused}
@@ -18,8 +18,8 @@ use Rattle.mmt_hear.specs.Hearing.{is_compressed, compressed_bodies}
 use Rattle.mmt_gate.specs.declared.expander.ExpandEnd.{ExpandEnd}
 use Rattle.mmt_gate.specs.declared.expander.ExpandEnd.TheVariants as end
 use Rattle.mmt_gate.specs.Image.{given, image_after}
-use Rattle.mmt_gate.specs.Datagrams.{Datagram, in_plain, in_opened, datagram_of, datagrams_after, datagrams}
-use Rattle.mmt_gate.specs.Expanding.{longest, plain_packet, expanded_opened, expanded, expansion}
+use Rattle.mmt_gate.specs.Datagrams.{Datagram, in_plain, in_opened, datagram_of, datagrams_after}
+use Rattle.mmt_gate.specs.Expanding.{plain_packet, expanded_opened, expanded}
 use Rattle.mmt_gate.specs.Promises.{IsWhole, is_short, ExpandingKeepsDatagrams}
 use Rattle.mmt_gate.proofs.Tables.{value_fits, opened_by_fits}
 use Rattle.mmt_gate.proofs.Datagrams.{in_turn, are_bytes, plain_has, compressed_has, other_has, plain_read, plain_again}

@@ -1,7 +1,7 @@
 -- How long the bodies of packets are.
-use Rattle.std.proofs.Common.{◌≡◌, ℕ, ◌+◌, ◌≤◌, List, length, Option, Some, None, refl, arith}
+use Rattle.std.proofs.Common.{◌≡◌, ◌+◌, ◌≤◌, length, Option, Some, None, arith}
 use Rattle.std.proofs.lemmas.List.{length-append}
-use Rattle.mmt_fields.specs.Reading.{optional, big_endian}
+use Rattle.mmt_fields.specs.Reading.{optional}
 use Rattle.mmt_fields.proofs.Numbers.{length_big_endian}
 use Rattle.mmt_ip.specs.declared.packet.Ip6Header.{Ip6Header}
 use Rattle.mmt_ip.specs.Spelling.{Value as Plain, spelling as plain_spelling}

@@ -8,3 +8,4 @@ pub mod Expanded
 pub mod Squeezers
 pub mod Placing
 pub mod Squeezed
+pub mod SqueezingKeeps

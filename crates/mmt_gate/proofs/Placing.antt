@@ -1,5 +1,5 @@
 -- The place of a header's squeezer.
-use Rattle.std.proofs.Common.{◌≡◌, ℕ, zero, suc, ◌+◌, ◌-◌, ◌<◌, ◌≤◌, ◌%◌, Bool, true, false, cond, eqb, List, [], ◌∷◌, ◌++◌, length, take, set, get_or, Option, Some, None, refl, sym, ap, ap₂, subst, ◌∙◌, arith}
+use Rattle.std.proofs.Common.{◌≡◌, ℕ, zero, suc, ◌+◌, ◌-◌, ◌<◌, ◌≤◌, ◌%◌, Bool, false, cond, eqb, List, [], ◌∷◌, ◌++◌, length, take, set, get_or, Option, Some, None, refl, sym, ap, ap₂, subst, ◌∙◌, arith}
 use Rattle.std.specs.Prelude.{map, count_by, All, ◌&&◌, Result, Ok, Err, OnOk}
 use Rattle.std.specs.List.{list_any, position}
 use Rattle.mmt_ip.specs.declared.packet.Ip6Header.{Ip6Header}
@@ -16,7 +16,7 @@ take_none : (n : ℕ) → take {A = Ip6Header} n [] ≡ []
 take_none zero = refl
 take_none (suc n) = refl
 
-none_first : (o : Options) → with_context o [] ≡ []
+pub none_first : (o : Options) → with_context o [] ≡ []
 unfolding distinct
 none_first o = take_none (4096 - o.context)
 

@@ -1,5 +1,5 @@
 -- The TLV packets that are written.
-use Rattle.std.proofs.Common.{◌≡◌, ℕ, zero, suc, ◌+◌, ◌/◌, ◌%◌, ◌<◌, ◌≤◌, List, [], ◌∷◌, ◌++◌, length, true, refl, ap, sym, ◌∙◌, append_assoc, arith}
+use Rattle.std.proofs.Common.{◌≡◌, ℕ, ◌+◌, ◌/◌, ◌%◌, ◌<◌, List, [], ◌∷◌, ◌++◌, length, ap, sym, ◌∙◌, append_assoc}
 use Rattle.mmt_tlv.specs.Framing.{spelling}
 use Rattle.mmt_ip.specs.Spelling.{Value as Plain, spelling as plain_spelling}
 use Rattle.mmt_gate.proofs.Lengths.{length_plain}

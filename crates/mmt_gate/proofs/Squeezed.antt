@@ -1,9 +1,8 @@
 -- What packets become when they are squeezed.
-use Rattle.std.proofs.Common.{◌≡◌, ◌≢◌, ℕ, true, false, eqb, List, ◌∷◌, Option, None, Result, Ok, Err, refl, sym, ap, ◌∙◌, arith, eq-eqb}
+use Rattle.std.proofs.Common.{◌≡◌, ◌≢◌, ℕ, List, ◌∷◌, Ok, Err, refl, sym, ap, ◌∙◌, arith, eq-eqb}
 use Rattle.std.specs.List.{cons_option}
 use Rattle.std.proofs.lemmas.Bool.{ne_eqb}
 use Rattle.mmt_tlv.specs.Framing.{Packet}
-use Rattle.mmt_ip.specs.declared.packet.Ip6Header.{Ip6Header}
 use Rattle.mmt_ip.specs.Reading.{packet_of as plain_of}
 use Rattle.mmt_gate.specs.declared.shrinker.ShrinkEnd.TheVariants as end
 use Rattle.mmt_gate.specs.Flows.{Options, header_read, header_of, headers}

@@ -1,14 +1,13 @@
 -- The squeezers of headers, and what one more packet does to them.
-use Rattle.std.proofs.Common.{◌≡◌, ℕ, zero, suc, ◌+◌, ◌-◌, ◌<◌, ◌≤◌, ◌%◌, Bool, true, false, cond, ◌||◌, eqb, List, [], ◌∷◌, ◌++◌, length, take, set, get_or, Option, Some, None, refl, sym, ap, ap₂, subst, ◌∙◌, arith, inl, inr}
-use Rattle.std.specs.Prelude.{⊤, map, count_by}
+use Rattle.std.proofs.Common.{◌≡◌, ℕ, zero, suc, ◌+◌, ◌-◌, ◌<◌, ◌≤◌, Bool, true, false, cond, ◌||◌, List, [], ◌∷◌, ◌++◌, length, take, set, get_or, Option, Some, None, refl, sym, ap, ap₂, subst, ◌∙◌, arith}
+use Rattle.std.specs.Prelude.{count_by}
 use Rattle.std.specs.List.{list_any}
-use Rattle.std.proofs.lemmas.Bool.{cases_lt}
 use Rattle.std.proofs.lemmas.List.{length-take, length-append, take-append-le}
 use Rattle.mmt_ip.specs.declared.packet.Ip6Header.{Ip6Header}
-use Rattle.mmt_ctx.specs.Squeezing.{Squeezing as Squeezer, IsAtCall}
-use Rattle.mmt_gate.specs.Flows.{Options, same, distinct, with_context, place_among}
-use Rattle.mmt_gate.specs.Keeping.{flow_of, Shrinking, squeezer_after, squeezers_after, Knows, HasSqueezed}
-use Rattle.mmt_gate.proofs.Flows.{same_is, same_self, same_flips, next_place, place, position_is, placed, unplaced, place_last, any_take, distinct_old, distinct_new, NoRepeats, no_repeats, repeats_take, unseen}
+use Rattle.mmt_ctx.specs.Squeezing.{Squeezing as Squeezer}
+use Rattle.mmt_gate.specs.Flows.{Options, same, distinct, with_context}
+use Rattle.mmt_gate.specs.Keeping.{squeezer_after, squeezers_after}
+use Rattle.mmt_gate.proofs.Flows.{same_is, same_flips, next_place, place, placed, unplaced, any_take, distinct_old, distinct_new, NoRepeats, no_repeats, repeats_take, unseen}
 
 pub length_squeezers : (o : Options) (hs : List Ip6Header) (context : ℕ) (known : List Ip6Header) → length (squeezers_after o hs context known) ≡ length known
 length_squeezers o hs context [] = refl

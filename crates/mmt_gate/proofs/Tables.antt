@@ -1,5 +1,5 @@
 -- The headers in a table have fields within their widths.
-use Rattle.std.proofs.Common.{◌≡◌, ℕ, zero, suc, Bool, true, false, List, [], ◌∷◌, Option, Some, None, Result, Ok, Err, get_or, set, replicate, refl, sym, ap, subst}
+use Rattle.std.proofs.Common.{◌≡◌, ℕ, zero, suc, Bool, true, false, List, [], ◌∷◌, Option, Some, None, Result, Ok, Err, set, replicate, refl, subst}
 use Rattle.std.specs.Prelude.{IfSome}
 use Rattle.mmt_base.specs.declared.refused.Refused.{Refused}
 use Rattle.mmt_fields.proofs.Codec.{IsBytes}

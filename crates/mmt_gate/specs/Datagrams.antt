@@ -1,5 +1,5 @@
 -- The datagrams that a stream of TLV packets carries (ARIB STD-B32 Part 3, RFC 8200, RFC 768). Earlier packets stand with the newest first.
-use Rattle.std.specs.Prelude.{ℕ, ◌<◌, ◌==◌, List, [], ◌∷◌, Option, Some, None, Result, Ok, Err, if◌then◌else◌, All}
+use Rattle.std.specs.Prelude.{ℕ, ◌==◌, List, [], ◌∷◌, Option, Some, None, Result, Ok, Err, if◌then◌else◌}
 use Rattle.std.specs.List.{cons_option}
 use Rattle.mmt_base.specs.declared.refused.Refused.{Refused}
 use Rattle.mmt_tlv.specs.Framing.{Packet}

@@ -1,5 +1,5 @@
 -- A stream of header-compressed packets as one of plain packets (ARIB STD-B32 Part 3, RFC 8200, RFC 768). Earlier packets stand with the newest first.
-use Rattle.std.specs.Prelude.{◌≡◌, ℕ, true, ◌==◌, nat_le, List, [], ◌∷◌, ◌++◌, length, Result, Ok, Err, if◌then◌else◌}
+use Rattle.std.specs.Prelude.{◌≡◌, ℕ, true, ◌==◌, nat_le, List, ◌++◌, length, Result, Ok, Err, if◌then◌else◌}
 use Rattle.mmt_base.specs.declared.refused.Refused.{Refused}
 use Rattle.mmt_tlv.specs.Framing.{Packet, spelling}
 use Rattle.mmt_ip.specs.Spelling.{spelling as plain_spelling}

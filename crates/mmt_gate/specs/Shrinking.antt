@@ -1,5 +1,5 @@
 -- A stream of plain packets as one of header-compressed packets (ARIB STD-B32 Part 3, RFC 8200, RFC 768). Earlier packets stand with the newest first.
-use Rattle.std.specs.Prelude.{◌≡◌, ℕ, ◌+◌, ◌==◌, List, [], ◌∷◌, ◌++◌, Option, Some, None, Result, Ok, Err, if◌then◌else◌, count_by}
+use Rattle.std.specs.Prelude.{◌≡◌, ℕ, ◌+◌, ◌==◌, List, ◌∷◌, ◌++◌, Option, Some, None, Result, Ok, Err, if◌then◌else◌, count_by}
 use Rattle.mmt_base.specs.declared.refused.Refused.{Refused}
 use Rattle.mmt_tlv.specs.Framing.{Packet, spelling}
 use Rattle.mmt_ip.specs.declared.packet.Ip6Header.{Ip6Header}

@@ -9,7 +9,7 @@ mod shrinker;
 mod writing;
 
 pub use expander::{ExpandEnd, Expander};
-pub use laws::expanding_keeps_datagrams;
+pub use laws::{expanding_keeps_datagrams, squeezing_keeps_datagrams};
 pub use shrinker::{ShrinkEnd, Shrinker};
 
 #[cfg(test)]

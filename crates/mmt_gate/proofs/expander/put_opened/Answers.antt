@@ -1,4 +1,4 @@
-use Rattle.std.proofs.Common.{rules, arith}
+use Rattle.std.proofs.Common.{rules}
 use Rattle.mmt_gate.proofs.Expanded.{expands_short}
 use Rattle.mmt_gate.proofs.expander.put_opened.Goals as goal
 

@@ -1,4 +1,4 @@
-use Rattle.std.proofs.Common.{rules, length, arith}
+use Rattle.std.proofs.Common.{arith}
 use Rattle.mmt_ctx.specs.Spelling.{spelling as compressed_spelling}
 use Rattle.mmt_ctx.specs.Squeezing.{packet_at}
 use Rattle.mmt_gate.proofs.Lengths.{length_compressed}

@@ -1,4 +1,4 @@
-use Rattle.std.proofs.Common.{◌≡◌, List, ℕ, Result, refl, subst, sym, arith}
+use Rattle.std.proofs.Common.{Result, refl, subst, sym, arith}
 use Rattle.mmt_base.specs.declared.refused.Refused.{Refused}
 use Rattle.mmt_ctx.specs.declared.packet.CtxWhy.{CtxWhy}
 use Rattle.mmt_ctx.specs.Headers.{Header as Opened, HasRead, view}

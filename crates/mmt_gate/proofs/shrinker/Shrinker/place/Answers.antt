@@ -1,12 +1,9 @@
 use Rattle.std.proofs.Common.{rules, ℕ, ◌≡◌, ◌+◌, List, [], ◌∷◌, ◌++◌, length, Some, None, refl, sym, ap, subst, ◌∙◌, arith}
 use Rattle.std.specs.Prelude.{All}
 use Rattle.std.proofs.lemmas.List.Elements.{All-push}
-use Rattle.mmt_ip.specs.declared.packet.Ip6Header.{Ip6Header}
 use Rattle.mmt_ctx.specs.Squeezing.{Squeezing as Squeezer, IsAtCall}
 use Rattle.mmt_gate.specs.contracts.shrinker.Shrinker.{the_view}
-use Rattle.mmt_gate.specs.declared.flow.Flow.{Flow}
-use Rattle.mmt_gate.specs.Flows.{same}
-use Rattle.mmt_gate.specs.Keeping.{Shrinking, HasSqueezed, flow_of}
+use Rattle.mmt_gate.specs.Keeping.{Shrinking, HasSqueezed}
 use Rattle.mmt_gate.proofs.Placing.{Found, place_found, place_full, place_new, agrees, pairs_new}
 use Rattle.mmt_gate.proofs.shrinker.Shrinker.place.Goals as goal
 

@@ -1,7 +1,6 @@
-use Rattle.std.proofs.Common.{◌≡◌, List, None, Result, sym, subst, ◌∙◌}
+use Rattle.std.proofs.Common.{Result, sym, subst, ◌∙◌}
 use Rattle.std.specs.List.{cons_option}
 use Rattle.mmt_base.specs.declared.refused.Refused.{Refused}
-use Rattle.mmt_ip.specs.declared.packet.Ip6Header.{Ip6Header}
 use Rattle.mmt_ip.specs.declared.packet.IpWhy.{IpWhy}
 use Rattle.mmt_ip.specs.Spelling.{Value as Plain}
 use Rattle.mmt_gate.specs.Flows.{header_read}
