@@ -1,0 +1,4 @@
+pub mod Noting
+pub mod Gathering
+pub mod Passing
+pub mod PassingGrows
