@@ -1,8 +1,8 @@
-"""checks/pages.py PROGRAM: runs what README.md, docs/SENDING.md and docs/PLANS.md show, from the top of the repository, and compares byte for byte.
+"""checks/pages.py PROGRAM: runs what README.md, docs/CAPTURES.md, docs/SENDING.md and docs/PLANS.md show, and compares byte for byte.
 
-It runs each command of README's example block, for each rule of admission in docs/SENDING.md the plan that breaks it, and for each refusal
-of a plan in docs/PLANS.md the plan that is refused so, and looks for what is printed in the page. Without a difference it prints how many it
-compared."""
+It runs each command of the example blocks of README.md, docs/CAPTURES.md and docs/SENDING.md, for each rule of admission in
+docs/SENDING.md the plan that breaks it, and for each refusal of a plan in docs/PLANS.md the plan that is refused so, and looks for what is
+printed in the page. Without a difference it prints how many it compared."""
 import copy
 import json
 import os
@@ -25,12 +25,12 @@ def differs(what, wanted, got):
         print(f'{what}\n  the page has {wanted!r}\n  printed is   {got!r}')
 
 
-def readme():
-    """The blocks of README.md with lines '    $ COMMAND' and what the command prints."""
+def examples(page):
+    """The blocks of a page with lines '    $ COMMAND' and what the command prints."""
     folder = tempfile.mkdtemp()
     os.symlink(program, os.path.join(folder, 'mmt'))
     os.symlink(os.path.join(top, 'examples'), os.path.join(folder, 'examples'))
-    text = open(os.path.join(top, 'README.md'), encoding='utf-8').read()
+    text = open(os.path.join(top, page), encoding='utf-8').read()
     for block in re.findall(r'(?:^    .*\n)+', text, re.M):
         lines = [line[4:] for line in block.splitlines()]
         if not lines[0].startswith('$ '):
@@ -153,7 +153,9 @@ def refusals():
         differs(f'bytes written at {wanted}', '', done.stdout)
 
 
-readme()
+examples('README.md')
+examples(os.path.join('docs', 'CAPTURES.md'))
+examples(os.path.join('docs', 'SENDING.md'))
 rules()
 refusals()
 print(f'{compared} compared, {failed} differ')

@@ -92,6 +92,7 @@ def main():
             (['peak', '--delay', '300', '--window', '1000', '--bound', '100000'], stream),
             (['take'], stream),
             (['mux', 'examples/two_units.json'], b''),
+            (['pace', 'examples/two_units.json', '--step', '1000'], b''),
             (['trial', 'examples/two_units.json', lists], b''),
             (['make', '7'], b''),
             (['expand'], stream),

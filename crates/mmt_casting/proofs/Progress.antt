@@ -39,7 +39,7 @@ use Rattle.mmt_model.specs.declared.programmes.Signal.TheVariants as signals
 abbrev pub units_before : Programme → ℕ → List SentUnit
 units_before programme u = map (λ k. unit_as_sent programme k (unit_at programme k)) (numbers 0 u)
 
--- all before a spot is sent, so many packets of its asset among it
+-- all before a spot is sent, N packets of its asset among it
 pub record IsSent (programme : Programme) (s : Spot) (number : ℕ) (packets : List Sent) (units : List SentUnit) : Type 0 where
   pub done : List Sending
   pub is : sendings programme ≡ done ++ sendings_from programme s.unit_place

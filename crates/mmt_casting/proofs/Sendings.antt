@@ -44,7 +44,7 @@ sendings-step programme u l =
     ∙ ap (λ ys. sending_of_units u n x rest ∷ ys)
     (skip programme (n - 1) (u + 1) rest ∙ (ap (sendings_of_units programme 0 (u + 1 + (n - 1))) (drop-drop (n - 1) (u + 1) (all_units programme)) ∙ ap (λ v. sendings_of_units programme 0 v (drop v (all_units programme))) s))
 
--- behind the last asset there are no units
+-- after the last asset there are no units
 pub end-spot : (programme : Programme) (s : Spot) → IsSpot programme s → length programme.assets ≤ s.asset → drop s.unit_place (all_units programme) ≡ []
 unfolding units_from mpus_from flat_map_from map_from
 end-spot programme s is ge =

@@ -89,13 +89,13 @@ unfolding mpus_from flat_map_from map_from
 mpus-none programme a ge =
     ap₂ (λ (x : Asset) (xs : List Asset). map_from (placed_in a x) 0 (drop 0 x.mpus) ++ flat_map_from mpus_of (a + 1) xs) (beyond programme.assets a no_asset ge) (drop_all (a + 1) programme.assets (omega arith))
 
--- behind the last unit of an MPU
+-- after the last unit of an MPU
 units-past : (programme : Programme) (s : Spot) → length (placed_at programme s).value.units ≤ s.unit → units_from programme s ≡ flat_map_from units_of (s.mpu_place + 1) (mpus_from programme s.asset (s.mpu + 1))
 unfolding units_from map_from
 units-past programme s l =
     ap (λ xs. map_from (unit_in s.mpu_place (placed_at programme s)) s.unit xs ++ flat_map_from units_of (s.mpu_place + 1) (mpus_from programme s.asset (s.mpu + 1))) (drop_all s.unit (placed_at programme s).value.units l)
 
--- the spot of a unit of the same MPU, so many further
+-- the spot of a unit of the same MPU, N further
 abbrev pub further : Spot → ℕ → Spot
 further s n = record { asset = s.asset; mpu = s.mpu; unit = s.unit + n; mpu_place = s.mpu_place; unit_place = s.unit_place + n }
 
@@ -136,7 +136,7 @@ pub record IsFull (programme : Programme) : Type 0 where
 pub all-full : (programme : Programme) → IsRight programme → IsFull programme
 all-full programme right = record { mpus = λ a l. (right.assets a no_asset l).some; units = λ a b l m. ((right.assets a no_asset l).mpus b no_mpu m).some }
 
--- the units of an asset and of those behind it
+-- the units of an asset and of those after it
 units-next : (programme : Programme) → IsRight programme → (a m u : ℕ) → flat_map_from units_of m (mpus_from programme a 0) ≡ units_from programme (first_of_mpu a 0 m u)
 unfolding flat_map_from
 units-next programme right a m u =
@@ -187,7 +187,7 @@ next-asset programme right s n is l e b =
       inside = λ l. (m.mpus (s.asset + 1) l, m.units (s.asset + 1) 0 l (m.mpus (s.asset + 1) l));
     }
 
--- behind the last asset there are no MPUs
+-- after the last asset there are no MPUs
 pub mpus-over : (programme : Programme) (s : Spot) → IsSpot programme s → length programme.assets ≤ s.asset → drop s.mpu_place (all_mpus programme) ≡ []
 unfolding mpus_from flat_map_from map_from
 mpus-over programme s is ge =

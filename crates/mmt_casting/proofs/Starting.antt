@@ -97,7 +97,7 @@ start-read programme xs a d e l =
 pub starts-long : (programme : Programme) (xs : List ℕ) → xs ≡ starts programme → length xs ≡ length programme.assets
 starts-long programme xs e = ap length e ∙ (length-map (numbers 0 (length programme.assets)) (start_of programme) ∙ length-numbers 0 (length programme.assets))
 
--- the places of so many names
+-- the places of N names
 pub places-more : (f : ℕ × ℕ → ℕ) (names : List (ℕ × ℕ)) (i : ℕ) (d : ℕ × ℕ) (places places' : List ℕ) (p : ℕ) → i < length names → places ≡ map f (take i names) → places' ≡ places ++ p ∷ [] → p ≡ f (get_or names i d) → places' ≡ map f (take (i + 1) names)
 places-more f names i d places places' p l before push is =
     push ∙ (ap₂ (λ xs x. xs ++ x ∷ []) before is ∙ sym (ap (map f) (take_more names i d l) ∙ map-append f (take i names) (get_or names i d ∷ [])))

@@ -11,7 +11,7 @@ abbrev pub named_with : Bool → LongTick → Option LongTick → Option LongTic
 named_with true last before = Some (record { 0 = least_with last.0 (tick_of before) })
 named_with false last before = before
 
--- these are the ticks from which so many MPUs are named
+-- these are the ticks from which N MPUs are named
 pub record AreNamed (mpus : ℕ) (copies : List TableCopy) (named : List (Option LongTick)) : Type 0 where
   pub long : length named ≡ mpus
   pub each : (m : ℕ) → m < mpus → get_or named m None ≡ long_tick (named_from_of m copies)

@@ -39,13 +39,13 @@ units_from programme s =
     map_from (unit_in s.mpu_place (placed_at programme s)) s.unit (drop s.unit (placed_at programme s).value.units)
     ++ flat_map_from units_of (s.mpu_place + 1) (mpus_from programme s.asset (s.mpu + 1))
 
--- a spot is that of a unit of the programme, or behind the last asset
+-- a spot is that of a unit of the programme, or after the last asset
 pub record IsSpot (programme : Programme) (s : Spot) : Type 0 where
   pub left : drop s.unit_place (all_units programme) ≡ units_from programme s
   pub mpus : drop s.mpu_place (all_mpus programme) ≡ mpus_from programme s.asset s.mpu
   pub inside : s.asset < length programme.assets → (s.mpu < length (asset_at programme s.asset).mpus) × (s.unit < length (placed_at programme s).value.units)
 
--- the first spot behind an MPU of an asset with so many
+-- the first spot after an MPU of an asset with N
 abbrev pub spot_behind : Spot → ℕ → ℕ → Spot
 spot_behind s mpus u =
     if nat_lt (s.mpu + 1) mpus

@@ -14,7 +14,7 @@ use Rattle.mmt_model.specs.declared.programmes.Programme.{Programme}
 use Rattle.mmt_model.specs.declared.programmes.Signal.{Signal}
 use Rattle.mmt_model.specs.declared.programmes.Signal.TheVariants as signals
 
--- the packets of a sending of whose packet id so many stand before it
+-- the packets of a sending of whose packet id N stand before it
 abbrev pub run_by : Programme → Sending → ℕ → Run
 run_by programme x number =
     record {
@@ -40,7 +40,7 @@ unit_by x run =
       count = run.count;
     }
 
--- so many units from one on that are sent in these packets
+-- N units from one on that are sent in these packets
 abbrev pub units_by : Programme → Run → ℕ → ℕ → List SentUnit
 units_by programme run u count = map (λ k. unit_by (unit_at programme k) run) (numbers u count)
 

@@ -58,7 +58,7 @@ fn made(alloc: Global, programme: &Programme) -> Result<Cast, OutOfMemory>
 /// The cast of a programme: its packets in the order of timestamp (ticks of 1/65536 second), packet id and
 /// number, and its units, MPUs and table copies.
 ///
-/// It asks for a right programme. An error other than `OutOfMemory` comes exactly where there is no cast, and
+/// It asks for a right programme. An error other than `OutOfMemory` comes if and only if there is no cast, and
 /// is the first of: an access unit's time is out of range, a table is too long, there are too many packets. The
 /// packets are counted before memory is taken. Its memory is in proportion to the cast.
 pub fn cast_of(alloc: Global, programme: &Programme) -> Result<Cast, CastEnd>

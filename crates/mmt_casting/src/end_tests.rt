@@ -69,7 +69,7 @@ fn a_table_has_at_most_65535_bytes(rt: HostRuntime) -> Result<(), Fail> {
     Ok(())
 }
 
-// The worked plan with 64 units of 262,144 packets each but for the last, which has so many bytes.
+// The worked plan with 64 units of 262,144 packets each but for the last, which has N bytes.
 fn with_units(alloc: Global, last: u32) -> Result<String, Fail> {
     let mut units = String::new(alloc);
     for u in 0..64u32 {

@@ -22,7 +22,7 @@ fn earlier_of(a: LongTick, b: LongTick) -> LongTick
     if a.0 <= b.0 { a } else { b }
 }
 
-/// The least due tick of so many units from one on.
+/// The least due tick of N units from one on.
 fn least_due(units: &[SentUnit], first: usize, count: usize) -> LongTick
     requires some { 1 ≤ count }
     requires within { first + count ≤ length units.now }

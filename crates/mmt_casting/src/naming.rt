@@ -42,7 +42,7 @@ fn unnamed(alloc: Global, mpus: usize) -> Result<Vec<Option<LongTick>>, OutOfMem
     Ok(named)
 }
 
-/// The tick from which each of so many MPUs is named: the least at which a copy that names it ends.
+/// The tick from which each of N MPUs is named: the least at which a copy that names it ends.
 pub fn named_from(
     alloc: Global,
     mpus: usize,

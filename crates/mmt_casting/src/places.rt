@@ -8,7 +8,7 @@ ghost use Rattle.mmt_model.specs.declared.programmes.Programme.{Programme};
 use mmt_model::{Asset, Mpu, Programme};
 
 /// A unit: the places of its asset, of its MPU there and of itself there, and the places of its MPU and
-/// of itself among all. Behind the last unit the asset is behind the last.
+/// of itself among all. After the last unit the asset is the one after the last.
 #[derive(Clone, Copy, Debug)]
 pub(crate) struct Spot {
     pub asset: u32,
@@ -53,7 +53,7 @@ pub(crate) fn mpu_of(programme: &Programme, spot: Spot) -> &Mpu
     &asset_of(programme, spot).mpus.as_slice()[spot.mpu as usize]
 }
 
-/// The spot so many units after one, which are of one MPU with it.
+/// The spot N units after one, which are of one MPU with it.
 pub(crate) fn after(programme: &Programme, spot: Spot, size: u32) -> Spot
     requires right { IsRight programme.now }
     requires spot { IsSpot programme.now spot }
@@ -80,7 +80,7 @@ pub(crate) fn after(programme: &Programme, spot: Spot, size: u32) -> Spot
     }
 }
 
-/// The first spot behind an MPU of an asset with so many, the unit there being at this place.
+/// The first spot after an MPU of an asset with N, the unit there being at this place.
 fn first_after(spot: Spot, mpus: usize, unit_place: u32) -> Spot
     requires mpu { spot.mpu + 1 < 2 ^ 32 }
     requires asset { spot.asset + 1 < 2 ^ 32 }

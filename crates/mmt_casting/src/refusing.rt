@@ -11,7 +11,7 @@ use crate::ranges::mpus_end;
 use crate::tables::tables_end;
 use mmt_model::Programme;
 
-/// The refusal of so many packets.
+/// The refusal of N packets.
 #[tactic(auto, unfolding(mmt_cast::specs::Refusing::refusal_of_packets, crate::specs::Ends::end_of))]
 fn packets_end(packets: u64) -> Option<CastEnd>
     ensures { result ≡ option_map end_of (refusal_of_packets packets) }

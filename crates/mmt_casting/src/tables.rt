@@ -27,7 +27,7 @@ struct Part {
     end: usize,
 }
 
-/// The bytes of an asset with so many MPUs named, whose extended descriptors have so many bytes.
+/// The bytes of an asset with `named` MPUs named, whose extended descriptors have `extended` bytes.
 fn part_of(asset: &Asset, named: u64, extended: u64, end: usize) -> Part
     requires id { length asset.now.id < 2 ^ 8 }
     requires named { named < 2 ^ 32 }

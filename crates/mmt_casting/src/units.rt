@@ -64,7 +64,7 @@ fn sent_unit(programme: &Programme, spot: Spot, run: Run) -> SentUnit
     }
 }
 
-/// The spot of a unit of the same MPU, so many further.
+/// The spot of a unit of the same MPU, N further.
 fn further(programme: &Programme, spot: Spot, by: u32) -> Spot
     requires right { IsRight programme.now }
     requires spot { IsSpot programme.now spot }
@@ -81,7 +81,7 @@ fn further(programme: &Programme, spot: Spot, by: u32) -> Spot
     }
 }
 
-/// Appends so many units of one MPU, from one on, that are sent in these packets.
+/// Appends N units of one MPU, from one on, that are sent in these packets.
 pub(crate) fn put_units(
     out: &mut Vec<SentUnit>,
     programme: &Programme,

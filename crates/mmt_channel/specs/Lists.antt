@@ -8,12 +8,12 @@ use Rattle.mmt_channel.specs.declared.deliveries.ListEnd.TheVariants as ends
 abbrev pub line_of : ℕ → List ℕ
 line_of d = decimal d ++ 10 ∷ []
 
--- a text is that of a list of places of so many packets
+-- a text is that of a list of places among `sent` packets
 pub record IsListText (sent : ℕ) (text : List ℕ) (list : List ℕ) : Type 0 where
   pub lines : text ≡ flat_map line_of list
   pub places : AllByRecursion (λ d. d < sent) list
 
--- a text begins with the line of a place of so many packets, which has so many bytes
+-- a text begins with the line of a place among `sent` packets, which has `size` bytes
 pub record IsLine (sent place size : ℕ) (text : List ℕ) : Type 0 where
   pub begins : text ≡ line_of place ++ drop size text
   pub known : place < sent

@@ -12,7 +12,7 @@ use std::str;
 /// Why a text is no list of deliveries.
 #[derive(Clone, Copy, Debug, PartialEq, Eq)]
 pub enum ListEnd {
-    /// This line, counted from 0, is not the place of a sent packet in decimal digits with a line feed behind it.
+    /// This line, counted from 0, is not the place of a sent packet in decimal digits with a line feed after it.
     Line { line: u32 },
     /// There is no memory.
     OutOfMemory,

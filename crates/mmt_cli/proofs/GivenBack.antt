@@ -38,8 +38,8 @@ status_done e (inr is) = inr (ap status_of is)
 -- ---- what `take` gives back
 
 pub given_back : TakeGivesBack → (config : Config) (limit : ℕ) (outcome : Status) (old new : Moment) → Takes config limit outcome old new → GivesBack config limit outcome old new
-given_back law config limit outcome old new takes programme files delivery reached is =
-    let g = law config programme files delivery reached limit takes.end old.history new.history new.left old.reads new.reads old.writes new.writes
+given_back law config limit outcome old new takes programme cast files delivery reached is =
+    let g = law config programme cast files delivery reached limit takes.end old.history new.history new.left old.reads new.reads old.writes new.writes
     (subst (λ (l : List ℕ). Does (taking config) limit takes.end old.history new.history l new.left old.reads new.reads old.writes new.writes) is takes.does) in
     record {
       events = g.0;
@@ -62,6 +62,15 @@ module _ (options : TakeOptions) (words : List (List ℕ)) (limit : ℕ) (outcom
 
   pub no_peak : (flow : FlowChoice) (params : Params) → Asks (command.Peak flow params) words → Asks (command.Take options) words → GivesBack (config_of options) limit outcome old new
   no_peak flow params peak take = let e : command.Peak flow params ≡ command.Take options = asks_once (command.Peak flow params) (command.Take options) words peak take in absurd cc
+
+  pub no_expand : Asks command.Expand words → Asks (command.Take options) words → GivesBack (config_of options) limit outcome old new
+  no_expand expand take = let e : command.Expand ≡ command.Take options = asks_once command.Expand (command.Take options) words expand take in absurd cc
+
+  pub no_squeeze : (context every : ℕ) → Asks (command.Squeeze context every) words → Asks (command.Take options) words → GivesBack (config_of options) limit outcome old new
+  no_squeeze context every squeeze take = let e : command.Squeeze context every ≡ command.Take options = asks_once (command.Squeeze context every) (command.Take options) words squeeze take in absurd cc
+
+  pub no_pace : (step : ℕ) → Asks (command.Pace step) words → Asks (command.Take options) words → GivesBack (config_of options) limit outcome old new
+  no_pace step pace take = let e : command.Pace step ≡ command.Take options = asks_once (command.Pace step) (command.Take options) words pace take in absurd cc
 
   pub no_command : (index : ℕ) → IsWrongAt IsCommand words index → Asks (command.Take options) words → GivesBack (config_of options) limit outcome old new
   no_command index wrong take = absurd (wrong.none (command.Take options, take))

@@ -5,3 +5,4 @@ pub mod Quiet
 pub mod RightPlans
 pub mod SentBack
 pub mod Taken
+mod PacedBack

@@ -12,7 +12,7 @@ use Rattle.mmt_stream.specs.declared.end.BrokenKind.TheVariants as kind
 use Rattle.mmt_stream.proofs.Exact.{does}
 use Rattle.mmt_stream.proofs.Turns.{nothing_yet}
 
-no_front : (xs ys : List ℕ) → IsPrefix xs ys → ys ≡ [] → xs ≡ []
+pub no_front : (xs ys : List ℕ) → IsPrefix xs ys → ys ≡ [] → xs ≡ []
 no_front [] ys (rest, is) none = refl
 no_front (x ∷ xs) ys (rest, is) none = absurd cc
 
@@ -28,7 +28,7 @@ module _ (m : Meaning) (going : (packets : List Packet) → (m.so_far packets).n
   quiet limit end.TooLong events unread (packets, tail, seen, byte, read, full, framed, front, output, out) = ap (λ o. o.noted) output ∙ going packets
   quiet limit end.ReadFault events unread (packets, tail, shown, front, within) = ap (λ o. o.noted) shown.output ∙ going packets
   quiet limit end.WriteFault events unread (begun, over, within) = begun_quiet events begun
-  quiet limit end.OutOfMemory events unread (begun, over, within) = begun_quiet events begun
+  quiet limit end.OutOfMemory events unread ((packets, tail, framed, begun), over, within) = begun_quiet events (packets, tail, framed, inl begun)
 
   pub notes_nothing : (limit : ℕ) (outcome : StreamEnd) (old new : List Event) (left unread : List ℕ) (reads reads' writes writes' : ℕ) → Does m limit outcome old new left unread reads reads' writes writes'
       → (events : List Event) → new ≡ old ++ events → bytes_noted events ≡ []

@@ -123,7 +123,7 @@ array_from_gives least s field name d =
     right_gives (λ (ds : Items). least ≤ items_len ds) (as_array_from least)
     (λ m. tested (λ (ds : Items). least ≤ items_len ds) (λ ds. nat_le least (items_len ds)) (λ ds e. leb-true least (items_len ds) e) (as_array m)) s field name d
 
--- the next step behind a number and behind a text
+-- the next step after a number and after a text
 by_number : {B : Type 0} (Q : B → Type 0) (f : ℕ → Result B Refusal) (least most : ℕ) (s : Spot) (field : ℕ) (name : List ℕ) (d : Data) → ((n : ℕ) → Within least most n → Gives Q (f n)) → Gives Q (number_at least most s field name d >>= f)
 by_number Q f least most s field name d k = after Q f (Within least most) (number_at least most s field name d) (number_gives least most s field name d) k
 
@@ -301,7 +301,7 @@ more_files start n m a le alone = record {
   };
 }
 
--- so are assets, each by the names of files behind it
+-- so are assets, each by the names of files after it
 record AreAssetsRead (start : ℕ) (files : List (List ℕ)) (many : ℕ) (x : List Asset × List (List ℕ)) : Type 0 where
   alone : All (IsAssetAlone start (length x.1)) x.0
   names : All IsFileName files → All IsFileName x.1

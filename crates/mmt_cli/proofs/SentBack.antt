@@ -1,5 +1,5 @@
 -- What is sent is a programme that can be sent, and `take` gives it back.
-use Rattle.std.proofs.Common.{◌≡◌, ◌⊎◌, ◌≤◌, ℕ, ◌+◌, true, List, ◌++◌, length, Option, Some, None, Result, Ok, Err, refl, ap, sym, subst, ◌∙◌}
+use Rattle.std.proofs.Common.{◌≡◌, ◌⊎◌, inl, ◌≤◌, ℕ, ◌+◌, true, List, ◌++◌, length, Option, Some, None, Result, Ok, Err, refl, ap, sym, subst, ◌∙◌}
 use Rattle.std.proofs.lemmas.Bool.{leb-true}
 use Rattle.std.proofs.lemmas.List.{append_cancel_left}
 use Rattle.std.proofs.lemmas.List.Elements.{All-from_recursion, All-weaker}
@@ -73,7 +73,7 @@ held_in : (file : Option (List ℕ)) (end : ℕ) → has_bytes file end ≡ true
 held_in None end e = absurd cc
 held_in (Some bytes) end e = leb-true end (length bytes) e
 
-hold : (file : List ℕ → Option (List ℕ)) (p : Programme) → files_of file p ≡ Ok tt → HoldUnits (files_on file p) p
+pub hold : (file : List ℕ → Option (List ℕ)) (p : Programme) → files_of file p ≡ Ok tt → HoldUnits (files_on file p) p
 hold file p e =
     All-weaker (UnitHeld file p.files) (λ (x : PlacedUnit). x.value.from + x.value.length ≤ length (files_on file p x.in_mpu.in_asset.file))
     (λ x h. held_in (file_of file p.files x.in_mpu.in_asset) (x.value.from + x.value.length) h) (all_units p) (All-from_recursion (UnitHeld file p.files) (all_units p) (units-held file p e))
@@ -81,7 +81,7 @@ hold file p e =
 pub can_be_sent : SentProgrammesAreSendable
 can_be_sent file name p e =
     let h = passed file name p e in
-    record { right = plans_are_right (file name) p h.plan; cast = h.cast; admitted = h.admitted; held = hold file p h.files }
+    record { right = plans_are_right (file name) p h.plan; none = h.cast; of = inl refl; admitted = h.admitted; held = hold file p h.files }
 
 pub reached : SentProgrammesAreSendable → SentProgrammesAreReached
 reached law file name p config delivery e r of near = record { sendable = law file name p e; receives = r; of = of; near = near }
@@ -94,7 +94,7 @@ record HasSent (file : List ℕ → Option (List ℕ)) (name : List ℕ) (old ne
   is : sendable file name ≡ Ok programme
   events : List Event
   history : new ≡ old ++ events
-  written : bytes_written events ≡ joined (stream programme (files_on file programme))
+  written : bytes_written events ≡ joined (stream programme (cast_of programme) (files_on file programme))
 
 done_sent : (file : List ℕ → Option (List ℕ)) (name : List ℕ) (end : Result (Unit {0}) MuxEnd) (old new : List Event) → status.Done ≡ status_of_run end → IsMuxAnswer (sendable file name) end → Sends (sent_bytes file (sendable file name)) end old new → HasSent file name old new
 done_sent file name (Ok u) old new told answer sent =
@@ -111,7 +111,7 @@ given_all_back can law file name config limit outcome before after old new run =
     let p : Programme = sent.programme in
     let files : ℕ → List ℕ = files_on file p in
     let same : run.events ≡ sent.events = append_cancel_left before.history run.events sent.events (sym run.sent ∙ sent.history) in
-    let input : old.left ≡ joined (stream p files) = run.input ∙ ap bytes_written same ∙ sent.written in (
+    let input : old.left ≡ joined (stream p (cast_of p) files) = run.input ∙ ap bytes_written same ∙ sent.written in (
       p,
       sent.is,
       λ hears.

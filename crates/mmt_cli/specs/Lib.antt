@@ -1,8 +1,11 @@
+pub mod Gateways
 pub mod GivingBack
 pub mod Listing
 pub mod ListingGrows
 pub mod Moments
 pub mod Muxing
+pub mod Pacing
+pub mod PacedBack
 pub mod Peaks
 pub mod Promise
 pub mod SentBack

@@ -1,4 +1,4 @@
--- More packets add lines behind those that are there.
+-- More packets add lines after those that are there.
 use Rattle.std.proofs.Common.{[], length, refl, ap, sym}
 use Rattle.std.proofs.lemmas.List.{append-nil}
 use Rattle.mmt_model.specs.Delivery.{newest_first}

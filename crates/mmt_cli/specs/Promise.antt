@@ -1,6 +1,7 @@
 -- What each command promises.
 use Rattle.std.specs.Prelude.{◌≡◌, ℕ}
 use Rattle.mmt_io.specs.Port.{Rose}
+use Rattle.mmt_cli.specs.Gateways.{Expands, Squeezes}
 use Rattle.mmt_cli.specs.Listing.{Lists}
 use Rattle.mmt_cli.specs.Peaks.{Peaks}
 use Rattle.mmt_cli.specs.Takes.{Takes, config_of}
@@ -28,6 +29,9 @@ HasCauses (command.Take options) outcome old new = HasPortCauses outcome old new
 HasCauses command.Mux outcome old new = HasShelfCauses outcome old new
 HasCauses command.Trial outcome old new = HasShelfCauses outcome old new
 HasCauses (command.Make seed) outcome old new = (outcome ≡ status.ReadFault → ⊥) × (outcome ≡ status.WriteFault → Rose old.writes new.writes)
+HasCauses command.Expand outcome old new = HasPortCauses outcome old new
+HasCauses (command.Squeeze context full_every) outcome old new = HasPortCauses outcome old new
+HasCauses (command.Pace step) outcome old new = HasShelfCauses outcome old new
 
 -- what a run of the command does, from the moment before it to the one after it
 abbrev pub Promises : Command → ℕ → Status → Moment → Moment → Type 0
@@ -37,3 +41,6 @@ Promises (command.Take options) limit outcome old new = Takes (config_of options
 Promises command.Mux limit outcome old new = ReadsNothing old new
 Promises command.Trial limit outcome old new = ReadsNothing old new
 Promises (command.Make seed) limit outcome old new = Makes seed outcome old new
+Promises command.Expand limit outcome old new = Expands limit outcome old new
+Promises (command.Squeeze context full_every) limit outcome old new = Squeezes context full_every limit outcome old new
+Promises (command.Pace step) limit outcome old new = ReadsNothing old new

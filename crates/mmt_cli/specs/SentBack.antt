@@ -22,13 +22,13 @@ use Rattle.mmt_cli.specs.declared.status.Status.TheVariants as status
 
 -- a programme whose stream `mux` sends is one that can be sent, with the files of the shelf
 abbrev pub SentProgrammesAreSendable : Type 0
-SentProgrammesAreSendable = (file : List ℕ → Option (List ℕ)) (name : List ℕ) (programme : Programme) → sendable file name ≡ Ok programme → IsSendable programme (files_on file programme)
+SentProgrammesAreSendable = (file : List ℕ → Option (List ℕ)) (name : List ℕ) (programme : Programme) → sendable file name ≡ Ok programme → IsSendable programme (cast_of programme) (files_on file programme)
 
 -- so each near delivery of it, and a receiver that hears it, meet the premises of the clause `gives_back`
 abbrev pub SentProgrammesAreReached : Type 0
 SentProgrammesAreReached =
     (file : List ℕ → Option (List ℕ)) (name : List ℕ) (programme : Programme) (config : Config) (delivery : List ℕ) → sendable file name ≡ Ok programme → Receives config programme
-    → AreOf (cast_of programme).packets delivery → IsNear (cast_of programme) programme.full_every delivery → Reaches config programme (files_on file programme) delivery
+    → AreOf (cast_of programme).packets delivery → IsNear (cast_of programme) programme.full_every delivery → Reaches config programme (cast_of programme) (files_on file programme) delivery
 
 -- a run of `mux` that is done, from one moment to another, and a run of `take` whose input is exactly the bytes that it wrote
 pub record MuxThenTake (file : List ℕ → Option (List ℕ)) (name : List ℕ) (config : Config) (limit : ℕ) (outcome : Status) (before after old new : Moment) : Type 0 where

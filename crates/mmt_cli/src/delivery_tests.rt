@@ -203,7 +203,7 @@ pub fn file(alloc: Global) -> Result<Vec<u8>, AllocError> {
     Ok(out)
 }
 
-// Adds so many bytes of the plans' file from a place on.
+// Adds N bytes of the plans' file from a place on.
 fn add_file(out: &mut Vec<u8>, file: &[u8], from: u64, length: u64) -> Result<(), Fail> {
     for k in 0..length.saturating_add(59_999) / 60_000 {
         let done = k.saturating_mul(60_000);
@@ -259,7 +259,7 @@ fn packet(alloc: Global, file: &[u8], line: &str) -> Result<Vec<u8>, Fail> {
     Ok(bytes)
 }
 
-// The packets of these texts, one behind the other.
+// The packets of these texts, one after the other.
 fn packets(alloc: Global, file: &[u8], texts: &[&str]) -> Result<Vec<Vec<u8>>, Fail> {
     let mut packets = Vec::new(alloc);
     for text in texts {
@@ -375,7 +375,7 @@ fn records(alloc: Global, file: &[u8], units: &str) -> Result<Vec<u8>, Fail> {
     Ok(out)
 }
 
-// Whether `take` of a delivery writes the records of these units and notes these lines, each behind a comma but
+// Whether `take` of a delivery writes the records of these units and notes these lines, each after a comma but
 // the first.
 fn gives_back(
     alloc: Global,

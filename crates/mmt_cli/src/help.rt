@@ -38,6 +38,10 @@ commands:
             of TLV packets to standard output. The plan, the lengths of what is sent, the files and the admission are
             checked in this order, and nothing is written where a check fails
             (no options; standard input is not read)
+  pace PLAN --step N
+            the same in the slots of a fixed rate: slots stand N ticks apart, 1 to 16777215, and each packet goes in a slot
+            of its own, from its timestamp in the plan on and before it is too late; this is tried before admission
+            (standard input is not read)
   trial PLAN LIST
             sends what mux PLAN sends into memory, gives a receiver of the programme the packets whose places the file LIST
             names, a decimal number and a line feed for each, in that order, and writes one line of what came out:
@@ -45,6 +49,17 @@ commands:
             (no options; standard input is not read; LIST has at most 16777216 bytes)
   make N    the same of a programme and a list that come from the number N, 0 to 65535
             (no options; standard input is not read)
+  expand    reads a stream of TLV packets from standard input, and writes it with a plain IPv6 packet for each
+            header-compressed one; packets of other types stay as they are. A compressed packet that is refused, or
+            whose payload is too long for a plain one, is left out and noted on standard error
+            (no options; at most 1099511627776 bytes are read)
+  squeeze --context N --full-every N
+            the other way: writes a header-compressed packet for each plain one with IPv6 and UDP; packets that are
+            compressed already are left out and noted on standard error
+            --context     the context of the first header, 0 to 4095; each new header has the next context, and
+                          packets of a header for which none is left stay plain
+            --full-every  of the packets of a header the first one and then one in so many carries it, 1 to 65535
+            (the options in this order; at most 1099511627776 bytes are read)
 
 statuses, and what is printed on standard error after 'mmt: ':
   0         done
@@ -60,6 +75,8 @@ statuses, and what is printed on standard error after 'mmt: ':
                                     what would be sent breaks a rule, A1 to A10, first at number N
   7         out of memory
   8         too long                the input has more bytes than can be read
+  9         not paced: FROM TO JOBS SLOTS
+                                    JOBS packets have to be sent from tick FROM to tick TO, and only SLOTS slots stand there
 ";
 
 /// The name and the version.

@@ -5,6 +5,9 @@
 mod delivery_tests;
 #[cfg(test)]
 mod fault_tests;
+mod gateway;
+#[cfg(test)]
+mod gateway_tests;
 mod help;
 mod list;
 mod mux;
@@ -12,6 +15,10 @@ mod mux;
 mod mux_tests;
 #[cfg(test)]
 mod note_tests;
+mod pace;
+#[cfg(test)]
+mod pace_tests;
+mod paced_back;
 mod peak;
 #[cfg(test)]
 mod peak_tests;

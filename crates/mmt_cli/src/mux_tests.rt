@@ -25,7 +25,7 @@ const PLAN: &str = r#"{"flow":"ff0e0000000000000000000000000101:51300",
 {"at":200,"from":0,"length":3000,"movie_fragment":1,"sample":1,"offset":0,"priority":0,"dependency":0},
 {"at":300,"from":3000,"length":500,"movie_fragment":1,"sample":2,"offset":0,"priority":0,"dependency":0}]}]}]}"#;
 
-// The shelf with the plan, one place of which is changed, and its file of so many bytes. These reads fail.
+// The shelf with the plan, one place of which is changed, and its file of N bytes. These reads fail.
 pub fn shelf(
     alloc: Global,
     change: (&str, &str),
@@ -45,7 +45,7 @@ pub fn shelf(
     Ok(shelf)
 }
 
-// A port without input and with room for so many bytes, in which these calls fail.
+// A port without input and with room for N bytes, in which these calls fail.
 fn roomy(alloc: Global, bytes: u32, failing: &[FailAt]) -> Result<MemoryPort, Fail> {
     let failing = Vec::from_slice(alloc, failing)?;
     Ok(MemoryPort::new(alloc, Vec::new(alloc), 1_000, bytes, failing)?)
@@ -86,6 +86,9 @@ fn take_gives_back_what_was_sent(rt: HostRuntime) -> Result<(), Fail> {
     assert!(rt; takes(alloc, &["take"], sent, wanted)?);
     Ok(())
 }
+
+/// The plan with a third message, a table, while the units play.
+pub const ONE_MORE_TABLE: &str = r#"[[0,0]]},{"at":32800,"kind":"table","names":[[0,0]]}],"#;
 
 // The plan with a third message: a later table.
 const LATER: &str = r#"[[0,0]]},{"at":33955,"kind":"table","names":[[0,0]]}],"#;

@@ -1,4 +1,4 @@
-//! What `take` notes, word by word, over the worked stream with bytes changed or with packets behind it.
+//! What `take` notes, word by word, over the worked stream with bytes changed or with packets after it.
 
 use crate::status::Status;
 use crate::take_tests::Units::{Both, BothAtOnce, First, Neither, Second};
@@ -41,7 +41,7 @@ fn changed(input: Vec<u8>, changes: &[(usize, u8)]) -> Result<Vec<u8>, Fail> {
     Ok(bytes)
 }
 
-// The worked stream, and behind it a TLV packet of a kind with a body.
+// The worked stream, and after it a TLV packet of a kind with a body.
 fn followed(alloc: Global, kind: u8, body: &[u8]) -> Result<Vec<u8>, Fail> {
     let mut out = stream(alloc)?;
     add(&mut out, kind, body, &[])?;
@@ -134,7 +134,7 @@ const PLAIN: [u8; 51] = [
     0xE2, 0x61, 0x62, 0x63,
 ];
 
-// A place in that packet behind the worked stream, the byte that is put there, and the note. The first byte stands there
+// A place in that packet after the worked stream, the byte that is put there, and the note. The first byte stands there
 // already: then all is right but the MMTP packet.
 const PLAIN_CHANGES: [(usize, u8, &str); 6] = [
     (3939, 0x61, "3939 mmtp-version 1\n"),
@@ -158,12 +158,12 @@ fn notes_plain_packets(rt: HostRuntime) -> Result<(), Fail> {
     Ok(())
 }
 
-// An MMTP packet behind a context, with an extension whose five bytes say that the payload is scrambled.
+// An MMTP packet after a context, with an extension whose five bytes say that the payload is scrambled.
 const SCRAMBLED: [u8; 24] = [
     0x00, 0x14, 0x61, 0x02, 0, 1, 0, 3, 0xE8, 1, 0x2C, 0, 0, 0, 4, 0, 0, 0, 5, 0x80, 1, 0, 1, 0x10,
 ];
 
-// The kind and body of a TLV packet behind the worked stream, and the note.
+// The kind and body of a TLV packet after the worked stream, and the note.
 const BODIES: [(u8, &[u8], &str); 9] = [
     (2, &[0x60; 39], "3891 ip-short\n"),
     (3, &[0x00, 0x14], "3891 ctx-short\n"),
@@ -191,7 +191,7 @@ fn notes_packets_that_are_not_heard(rt: HostRuntime) -> Result<(), Fail> {
     Ok(())
 }
 
-// The kind and payload of an MMTP packet behind the worked stream, 0 for media and 2 for signalling, how many of its
+// The kind and payload of an MMTP packet after the worked stream, 0 for media and 2 for signalling, how many of its
 // bytes are kept, and the note.
 const PAYLOADS: [(u8, &[u8], u32, &str); 14] = [
     (0, &[], 0, "3906 mpu-short\n"),
@@ -337,6 +337,19 @@ fn notes_the_first_name_after_1024(rt: HostRuntime) -> Result<(), Fail> {
     // MPU 7 of packet id 256 and MPUs 0 to 1022 of packet id 257 are 1,024 names.
     let lines = "3906 names-full 0 0 257 1023\n";
     assert!(rt; notes(alloc, &["take"], input, Both, 19_089, lines)?);
+    // The table names MPUs 0 to 1024 of packet id 256, after the buffer message alone.
+    let mut payload = changed(
+        payload,
+        &[(8, 0x2E), (13, 0x29), (17, 0x25), (37, 0), (39, 0x0F)],
+    )?;
+    payload.extend_from_slice(&[0, 1, 12, 0, 0, 4, 0, 0, 0, 0x03, 0xE8, 0x80, 0, 0, 0])?;
+    let mut input = packets(alloc, &[0])?;
+    let mut head = head(2, 1);
+    head[9] = 0;
+    head[10] = 0x64;
+    add(&mut input, 3, &head, &payload)?;
+    let lines = "99 names-full 0 0 256 1024\n";
+    assert!(rt; notes(alloc, &["take"], input, Neither, 15_434, lines)?);
     Ok(())
 }
 

@@ -14,7 +14,7 @@ const HEADERS: [u8; 52] = [
     0, 0, 0, 0,
 ];
 
-// Adds an MPU packet with a first byte, a timestamp, a number, and a payload of so many zeros.
+// Adds an MPU packet with a first byte, a timestamp, a number, and a payload of N zeros.
 fn add(out: &mut Vec<u8>, first: u8, time: u16, number: u8, size: u8) -> Result<(), AllocError> {
     let mut bytes = HEADERS;
     bytes[3] = 60_u8.saturating_add(size);

@@ -11,7 +11,7 @@ use mmt_stream::BrokenKind;
 use std::alloc::Global;
 use std::test::Fail;
 
-// A port in memory that gives its input in pieces of so many bytes at most.
+// A port in memory that gives its input in pieces of N bytes at most.
 #[derive(Drop)]
 struct Pieces {
     port: MemoryPort,
@@ -43,7 +43,7 @@ impl Port for Pieces {
     }
 }
 
-// Whether `take` does so with the input in pieces of so many bytes.
+// Whether `take` does so with the input in pieces of N bytes.
 fn takes(alloc: Global, input: &[u8], size: usize, wanted: Wanted<'_>) -> Result<bool, Fail> {
     let words = words(alloc, &["take"])?;
     let input = Vec::from_slice(alloc, input)?;

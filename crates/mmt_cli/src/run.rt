@@ -1,18 +1,21 @@
 //! The top call: from the words of the command line to the status.
-ghost use Rattle.std.specs.Prelude.{◌≡◌, ℕ, ◌^◌, ◌≤◌, List, IsTrue};
+ghost use Rattle.std.specs.Prelude.{◌≡◌, ℕ, ◌^◌, ◌<◌, ◌≤◌, List, IsTrue};
 ghost use Rattle.mmt_command.specs.Words.{texts, IsWrongAt};
-ghost use Rattle.mmt_command.specs.Commands.{Asks, IsCommand, mux_words, trial_words};
+ghost use Rattle.mmt_command.specs.Commands.{Asks, IsCommand, mux_words, pace_words, trial_words};
 ghost use Rattle.mmt_cli.specs.Moments.{moment, faults};
 ghost use Rattle.mmt_cli.specs.GivingBack.{GivesBack};
 ghost use Rattle.mmt_cli.specs.Muxing.{Muxes};
+ghost use Rattle.mmt_cli.specs.Pacing.{Paces};
 ghost use Rattle.mmt_cli.specs.Promise.{HasCauses, Promises};
 ghost use Rattle.mmt_cli.specs.Takes.{config_of};
 ghost use Rattle.mmt_cli.specs.Trying.{Trials};
 ghost use Rattle.mmt_command.specs.declared.take_words.TakeOptions.{TakeOptions};
 ghost use Rattle.mmt_command.specs.declared.words.Command.{Command};
 
+use crate::gateway::{expand_within, squeeze_within};
 use crate::list::list_within;
 use crate::mux::mux_within;
+use crate::pace::pace_within;
 use crate::peak::peak_within;
 use crate::status::Status;
 use crate::take::{configured, take_within};
@@ -64,6 +67,14 @@ pub fn run_within<P: Port, H: Shelf>(
         (P.write_faults port.old))
         (moment (P.history port.new) (P.left port.new) (P.read_faults port.new)
         (P.write_faults port.new)) }
+    // `pace` writes the stream of its plan over the paced cast, or the first reason why it is not sent is the status.
+    ensures paces { IsTrue (P.tells port.old) → IsTrue (H.tells shelf.old) →
+        (name : List ℕ) (step : ℕ) → 1 ≤ step → step < 2 ^ 24 → texts words.now ≡ pace_words name step →
+        Paces (H.file shelf.old) name step result
+        (moment (P.history port.old) (P.left port.old) (P.read_faults port.old)
+        (P.write_faults port.old))
+        (moment (P.history port.new) (P.left port.new) (P.read_faults port.new)
+        (P.write_faults port.new)) }
     // Of a near delivery of a programme `take` writes exactly the units whose packets and one naming table survived.
     ensures gives_back { IsTrue (P.tells port.old) → (options : TakeOptions) →
         Asks (Command.Take options) (texts words.now) →
@@ -89,6 +100,14 @@ pub fn run_within<P: Port, H: Shelf>(
             shelf,
         ),
         Ok(Command::Make { seed }) => make_within(alloc, seed, port),
+        Ok(Command::Expand) => expand_within(alloc, port, limit),
+        Ok(
+            Command::Squeeze {
+                context,
+                full_every,
+            },
+        ) => squeeze_within(alloc, port, context, full_every, limit),
+        Ok(Command::Pace { step }) => pace_within(alloc, words[1].as_str(), step, port, shelf),
         Err(index) => Status::Usage { index },
     }
 }
@@ -129,6 +148,14 @@ pub fn run<P: Port, H: Shelf>(
     ensures tries { IsTrue (P.tells port.old) → IsTrue (H.tells shelf.old) →
         (plan list : List ℕ) → texts words.now ≡ trial_words plan list →
         Trials (H.file shelf.old) plan list result
+        (moment (P.history port.old) (P.left port.old) (P.read_faults port.old)
+        (P.write_faults port.old))
+        (moment (P.history port.new) (P.left port.new) (P.read_faults port.new)
+        (P.write_faults port.new)) }
+    // `pace` writes the stream of its plan over the paced cast, or the first reason why it is not sent is the status.
+    ensures paces { IsTrue (P.tells port.old) → IsTrue (H.tells shelf.old) →
+        (name : List ℕ) (step : ℕ) → 1 ≤ step → step < 2 ^ 24 → texts words.now ≡ pace_words name step →
+        Paces (H.file shelf.old) name step result
         (moment (P.history port.old) (P.left port.old) (P.read_faults port.old)
         (P.write_faults port.old))
         (moment (P.history port.new) (P.left port.new) (P.read_faults port.new)

@@ -4,7 +4,7 @@ ghost use Rattle.mmt_cli.specs.Statuses.{status_of};
 
 use mmt_admit::NotAdmitted;
 use mmt_io::Halt;
-use mmt_mux::MuxEnd;
+use mmt_mux::{MuxEnd, PaceEnd};
 use mmt_plan::{PlanPlace, Reason};
 use mmt_stream::{BrokenKind, StreamEnd};
 use std::fmt;
@@ -15,21 +15,39 @@ pub enum Status {
     /// The command did its work, and read its input to the end.
     Done,
     /// The words are no command from this one on, which is counted from 0.
-    Usage { index: u32 },
+    Usage {
+        index: u32,
+    },
     /// A read failed.
     ReadFault,
     /// A write or a note failed.
     WriteFault,
     /// The input is whole packets up to this place, and no packet stands there.
-    Broken { kind: BrokenKind, place: u64 },
+    Broken {
+        kind: BrokenKind,
+        place: u64,
+    },
     /// The plan or one of its files is refused: the first reason, and its place in the plan.
-    PlanRefused { reason: Reason, place: PlanPlace },
+    PlanRefused {
+        reason: Reason,
+        place: PlanPlace,
+    },
     /// The cast of the plan is not admitted: its first fault.
-    NotAdmitted { refusal: NotAdmitted },
+    NotAdmitted {
+        refusal: NotAdmitted,
+    },
     /// There was no memory.
     OutOfMemory,
     /// The input has more bytes than the limit.
     TooLong,
+    /// An interval has more packets than slots: its first and its last tick, and how many packets have to go in it and how
+    /// many slots it has.
+    NotPaced {
+        from: u64,
+        to: u64,
+        jobs: u32,
+        slots: u32,
+    },
 }
 
 impl From<StreamEnd> for Status {
@@ -59,6 +77,29 @@ impl From<MuxEnd> for Status {
             MuxEnd::ReadFault => Status::ReadFault,
             MuxEnd::WriteFault => Status::WriteFault,
             MuxEnd::OutOfMemory => Status::OutOfMemory,
+        }
+    }
+}
+
+impl From<PaceEnd> for Status {
+    ghost use Rattle.mmt_cli.specs.Statuses.{status_of_pace_end};
+
+    ghost from_gives = { λ end status. status ≡ status_of_pace_end end };
+
+    fn from(end: PaceEnd) -> Status {
+        match end {
+            PaceEnd::NotPaced {
+                from,
+                to,
+                jobs,
+                slots,
+            } => Status::NotPaced {
+                from,
+                to,
+                jobs,
+                slots,
+            },
+            PaceEnd::Ended(end) => Status::from(end),
         }
     }
 }
@@ -93,6 +134,7 @@ impl Status {
             Status::NotAdmitted { .. } => 6,
             Status::OutOfMemory => 7,
             Status::TooLong => 8,
+            Status::NotPaced { .. } => 9,
         }
     }
 }
@@ -117,6 +159,12 @@ impl fmt::Display for Status {
             Status::NotAdmitted { refusal } => write!(f, "{refusal}"),
             Status::OutOfMemory => write!(f, "out of memory"),
             Status::TooLong => write!(f, "too long"),
+            Status::NotPaced {
+                from,
+                to,
+                jobs,
+                slots,
+            } => write!(f, "not paced: {from} {to} {jobs} {slots}"),
         }
     }
 }

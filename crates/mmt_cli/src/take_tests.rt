@@ -1,6 +1,6 @@
 //! The command `take` over the worked stream: its units, its notes and its last line.
 
-use crate::run::run;
+use crate::run::{run, run_within};
 use crate::status::Status;
 use crate::tests::words;
 use crate::worked::{LENGTH, PACKETS, stream};
@@ -39,7 +39,7 @@ pub(crate) enum Units {
     BothAtOnce,
 }
 
-// Adds a record: its head, and so many bytes of the file from a place on.
+// Adds a record: its head, and N bytes of the file from a place on.
 fn add(out: &mut Vec<u8>, head: &[u8; 34], from: u32, length: u32) -> Result<(), AllocError> {
     out.extend_from_slice(head)?;
     for place in 0..length {
@@ -186,21 +186,47 @@ fn takes_a_stream_that_is_cut(rt: HostRuntime) -> Result<(), Fail> {
     Ok(())
 }
 
+// The first call of a kind that fails, the most bytes that are read, and what is answered and written. Nothing is noted.
+const ENDS: [(Option<CallKind>, u64, Status, Units); 3] = [
+    (
+        Some(CallKind::Write),
+        1 << 40,
+        Status::WriteFault,
+        Units::Neither,
+    ),
+    (
+        Some(CallKind::Note),
+        1 << 40,
+        Status::WriteFault,
+        Units::Both,
+    ),
+    (None, 3886, Status::TooLong, Units::Neither),
+];
+
 #[test]
-fn ends_where_a_write_fails(rt: HostRuntime) -> Result<(), Fail> {
+fn ends_where_a_call_fails_or_the_limit_is_passed(rt: HostRuntime) -> Result<(), Fail> {
     let alloc = rt.alloc();
     let words = words(alloc, &["take"])?;
-    let failing = [FailAt {
-        kind: CallKind::Write,
-        number: 0,
-        through: 0,
-    }];
-    let failing = Vec::from_slice(alloc, &failing)?;
-    let mut port = MemoryPort::new(alloc, stream(alloc)?, 100, 10_000, failing)?;
-    let mut shelf = MemoryShelf::new(alloc, Vec::new(alloc));
-    let status = run(alloc, &words, &mut port, &mut shelf);
-    assert_eq!(rt; status, Status::WriteFault);
-    assert_eq!(rt; port.written().len(), 0);
+    for (failing, limit, ends, units) in ENDS {
+        if limit > 1 << 40 {
+            continue;
+        }
+        let mut calls = Vec::new(alloc);
+        if let Some(kind) = failing {
+            calls.push(FailAt {
+                kind,
+                number: 0,
+                through: 0,
+            })?;
+        }
+        let mut port = MemoryPort::new(alloc, stream(alloc)?, 100, 10_000, calls)?;
+        let mut shelf = MemoryShelf::new(alloc, Vec::new(alloc));
+        let status = run_within(alloc, &words, &mut port, &mut shelf, limit);
+        let records = records(alloc, units)?;
+        assert_eq!(rt; status, ends);
+        assert_eq!(rt; port.written(), records.as_slice());
+        assert_eq!(rt; port.noted().len(), 0);
+    }
     Ok(())
 }
 

@@ -59,12 +59,22 @@ const KINDS: [u8; 28] = [
     0xA0, 0, 1, 9,
 ];
 
+// A plain packet of the worked flow, with the checksum 0 and an MPU of one timed unit.
+const PLAIN: [u8; 89] = [
+    0x7F, 0x02, 0, 85, 0x60, 0, 0, 0, 0, 45, 17, 64, 0x20, 0x01, 0x0D, 0xB8, 0, 0, 0, 0, 0, 0, 0,
+    0, 0, 0, 0, 1, 0xFF, 0x0E, 0, 0, 0, 0, 0, 0, 0, 0, 0, 0, 0, 0, 0x01, 0x01, 0xC8, 0x64, 0xC8,
+    0x64, 0, 45, 0, 0, 0, 0, 0, 0x10, 0, 1, 0, 0, 0, 0, 0, 5, 0, 0x17, 0x28, 0, 0, 0, 0, 7, 0, 0,
+    0, 1, 0, 0, 0, 1, 0, 0, 0, 0, 0, 0, 0x61, 0x62, 0x63,
+];
+
 #[test]
 fn lists_streams(rt: HostRuntime) -> Result<(), Fail> {
     let lost: &[u8] = &[0x7F, 0xFF, 0, 0, 0x47];
     let kinds =
         "0 ip4 1\n5 ip6 0 | refused 9 ip-short\n9 ctx 0 | refused 13 ctx-short\n13 signal 2\n19 null 0\n23 other-a0 1\n";
-    let table: [(&[u8], u64, Status, &str); 9] = [
+    let plain =
+        "0 ip6 85 | 20010db8000000000000000000000001:51300 ff0e0000000000000000000000000101:51300 | mmtp id 16 type 0 time 65536 number 5 rap 0 payload 25 | mpu 7 timed 1 part 0 units 1 [1 1 0 3]\n";
+    let table: [(&[u8], u64, Status, &str); 10] = [
         (&NULL, LIMIT, Status::Done, "0 null 0\n"),
         (&[], LIMIT, Status::Done, ""),
         (&[0x7F, 0x02, 0], LIMIT, CUT, ""),
@@ -74,6 +84,7 @@ fn lists_streams(rt: HostRuntime) -> Result<(), Fail> {
         (&NULL, 4, Status::Done, "0 null 0\n"),
         (&NULL, 0, Status::TooLong, ""),
         (&KINDS, LIMIT, Status::Done, kinds),
+        (&PLAIN, LIMIT, Status::Done, plain),
     ];
     for (input, limit, status, output) in table {
         if limit > LIMIT {
@@ -203,7 +214,7 @@ fn lists_the_same_in_any_pieces(rt: HostRuntime) -> Result<(), Fail> {
 #[test]
 fn refuses_wrong_words(rt: HostRuntime) -> Result<(), Fail> {
     let alloc = rt.alloc();
-    let table: [(&[&str], u32); 8] = [
+    let table: [(&[&str], u32); 10] = [
         (&[], 0),
         (&["lists"], 0),
         (&["List"], 0),
@@ -212,6 +223,8 @@ fn refuses_wrong_words(rt: HostRuntime) -> Result<(), Fail> {
         (&["mux"], 1),
         (&["mux", "plan.json", "--"], 2),
         (&["", "list"], 0),
+        (&["take", "--bound"], 2),
+        (&["peak", "--delay", "5", "--window", "5"], 4),
     ];
     for (texts, index) in table {
         let words = words(alloc, texts)?;
@@ -244,6 +257,14 @@ const LATE: Status = Status::NotAdmitted {
     },
 };
 
+// Four packets for three slots.
+const FULL: Status = Status::NotPaced {
+    from: 10,
+    to: 30,
+    jobs: 4,
+    slots: 3,
+};
+
 #[test]
 fn tells_each_status(rt: HostRuntime) -> Result<(), Fail> {
     let alloc = rt.alloc();
@@ -258,6 +279,7 @@ fn tells_each_status(rt: HostRuntime) -> Result<(), Fail> {
         (LATE, 6, "not admitted: A4 1 65570955 65568868"),
         (Status::OutOfMemory, 7, "out of memory"),
         (Status::TooLong, 8, "too long"),
+        (FULL, 9, "not paced: 10 30 4 3"),
     ];
     for (status, number, text) in table {
         assert_eq!(rt; status.number(), number);

@@ -16,21 +16,16 @@ fn port(alloc: Global) -> Result<MemoryPort, Fail> {
     Ok(MemoryPort::new(alloc, Vec::new(alloc), 100, 10_000, Vec::new(alloc))?)
 }
 
-// The shelf with the worked plan, of which one place is changed, its file, and a list of deliveries. This read fails.
-fn with_list(
-    alloc: Global,
-    change: (&str, &str),
-    list: &str,
-    failing: &[u64],
-) -> Result<MemoryShelf, Fail> {
-    let mut shelf = shelf(alloc, change, 3500, failing)?;
+// The shelf with the worked plan, of which one place is changed, its file, and a list of deliveries.
+fn with_list(alloc: Global, change: (&str, &str), list: &str) -> Result<MemoryShelf, Fail> {
+    let mut shelf = shelf(alloc, change, 3500, &[])?;
     shelf.put("list", Vec::from_slice(alloc, list.as_bytes())?)?;
     Ok(shelf)
 }
 
 // The line of a trial of the worked plan, of which one place is changed, with this list.
 fn tried(alloc: Global, change: (&str, &str), list: &str) -> Result<MemoryPort, Fail> {
-    let mut shelf = with_list(alloc, change, list, &[])?;
+    let mut shelf = with_list(alloc, change, list)?;
     let mut port = port(alloc)?;
     let words = words(alloc, TRIAL)?;
     let status = run(alloc, &words, &mut port, &mut shelf);
@@ -71,7 +66,7 @@ fn a_packet_before_tuning_is_not_kept(rt: HostRuntime) -> Result<(), Fail> {
 
 // The text of the status of a trial with this list, which writes nothing.
 fn told(alloc: Global, list: &str) -> Result<String, Fail> {
-    let mut shelf = with_list(alloc, ("", ""), list, &[])?;
+    let mut shelf = with_list(alloc, ("", ""), list)?;
     let mut port = port(alloc)?;
     let words = words(alloc, TRIAL)?;
     let status = run(alloc, &words, &mut port, &mut shelf);
@@ -108,29 +103,6 @@ fn tells_a_list_that_is_absent(rt: HostRuntime) -> Result<(), Fail> {
     let status = run(alloc, &words, &mut port, &mut shelf);
     let told = format!(in alloc; "{status}")?;
     assert_eq!(rt; told.as_str(), "plan: list-absent at line 0 0 0 field 0");
-    Ok(())
-}
-
-// How many reads of files a command makes: each of them fails in turn, and then none.
-fn reads(alloc: Global, texts: &[&str]) -> Result<u64, Fail> {
-    for call in 0..100_u64 {
-        let mut shelf = with_list(alloc, ("", ""), "0\n1\n2\n4\n5\n", &[call])?;
-        let mut port = port(alloc)?;
-        let words = words(alloc, texts)?;
-        match run(alloc, &words, &mut port, &mut shelf) {
-            Status::Done => return Ok(call),
-            Status::ReadFault => {}
-            _ => return Err(Fail::from("another end")),
-        }
-    }
-    Err(Fail::from("reads without end"))
-}
-
-#[test]
-fn each_read_of_trial_fails_and_it_reads_more_than_mux(rt: HostRuntime) -> Result<(), Fail> {
-    let sent = reads(rt.alloc(), &["mux", "plan.json"])?;
-    let tried = reads(rt.alloc(), TRIAL)?;
-    assert!(rt; tried > sent);
     Ok(())
 }
 

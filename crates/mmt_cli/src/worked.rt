@@ -65,7 +65,7 @@ struct Sent {
 }
 
 // A packet with a part of a unit: its number and time, which part it is and how many follow, the sample, and
-// its bytes in the file, so many from a place on.
+// its bytes in the file, N from a place on.
 #[derive(Clone, Copy)]
 struct Piece {
     number: u32,
@@ -201,7 +201,7 @@ fn add(
     Ok(())
 }
 
-// The bytes, where they are so many or fewer.
+// The bytes, where they are N or fewer.
 fn at_most(bytes: &[u8], most: usize) -> Option<&[u8]>
     ensures { IfSome result (λ b. length b.now ≤ most) }
 {

@@ -64,8 +64,8 @@ hex_byte_is (suc k) n i lt = elim (cases_order i k) [
 pub front_of : (f : Flow) → take 32 (flow_text f) ≡ hex_text 32 f.address
 front_of f = take_front 32 _ _ (length_hex 32 f.address)
 
-behind_of : (f : Flow) → drop 32 (flow_text f) ≡ 58 ∷ decimal f.port
-behind_of f = drop_front 32 _ _ (length_hex 32 f.address)
+after_of : (f : Flow) → drop 32 (flow_text f) ≡ 58 ∷ decimal f.port
+after_of f = drop_front 32 _ _ (length_hex 32 f.address)
 
 pub colon_of : (f : Flow) → get_or (flow_text f) 32 0 ≡ 58
 colon_of f = at_seam 32 _ _ 58 (length_hex 32 f.address)

@@ -1,10 +1,13 @@
 pub mod AskedOnce
 pub mod Colons
 pub mod FlowTexts
+pub mod GatewayWords
 pub mod MakeWords
 pub mod Names
 pub mod OneWord
+pub mod OptionPlaces
 pub mod OptionWords
+pub mod PaceWords
 pub mod PeakWords
 pub mod Places
 pub mod PlanWords

@@ -7,14 +7,14 @@ use Rattle.mmt_command.specs.Commands.{Asks, IsCommand, make_words}
 use Rattle.mmt_command.specs.declared.words.Command.TheVariants as command
 use Rattle.mmt_command.proofs.Names.{asked_make}
 use Rattle.mmt_command.proofs.Places.{word_of}
-use Rattle.mmt_command.proofs.Wrong.{wrong_behind}
+use Rattle.mmt_command.proofs.Wrong.{wrong_after}
 
 whole_make : (seed : ℕ) → seed ≤ 65535 → IsCommand (make_words seed)
 whole_make seed high = (command.Make seed, (refl, omega arith))
 
 no_seed_after : (words : List (List ℕ)) → ((n : ℕ) (more : List (List ℕ)) → 0 ≤ n → n ≤ 65535 → words ≢ decimal n ∷ more) → IsWrongAt IsCommand (codes "make" ∷ words) 1
 no_seed_after words other =
-    wrong_behind IsCommand (codes "make" ∷ []) words (_, whole_make 0 (omega arith)) (λ e c. let p = asked_make [] c in omega (arith, ap length p.1.0))
+    wrong_after IsCommand (codes "make" ∷ []) words (_, whole_make 0 (omega arith)) (λ e c. let p = asked_make [] c in omega (arith, ap length p.1.0))
     (λ w more tail e c. let p = asked_make (w ∷ tail) c in other p.0 more (omega arith) (omega (arith, p.1.1)) (e ∙ ap (λ x. x ∷ more) (word_of 1 _ _ p.1.0)))
 
 pub no_seed : (words : List (List ℕ)) → words ≡ codes "make" ∷ drop 1 words → ((n : ℕ) (more : List (List ℕ)) → 0 ≤ n → n ≤ 65535 → drop 1 words ≢ decimal n ∷ more) → IsWrongAt IsCommand words 1
@@ -35,7 +35,7 @@ pub make_long : (words : List (List ℕ)) (seed : ℕ) → words ≡ codes "make
 make_long words seed e n high l =
     let s = seeded words seed e n in
     subst (λ x. IsWrongAt IsCommand x 2) (sym s)
-    (wrong_behind IsCommand (make_words seed) (drop 2 words) ([], whole_make seed high) (λ none c. l (ap length (s ∙ ap (λ x. codes "make" ∷ decimal seed ∷ x) none)))
+    (wrong_after IsCommand (make_words seed) (drop 2 words) ([], whole_make seed high) (λ none c. l (ap length (s ∙ ap (λ x. codes "make" ∷ decimal seed ∷ x) none)))
     (λ w more tail e c. let p = asked_make (decimal seed ∷ w ∷ tail) c in omega (arith, ap length p.1.0)))
 
 pub make_once : (a b : ℕ) (words : List (List ℕ)) → Asks (command.Make a) words → Asks (command.Make b) words → a ≡ b

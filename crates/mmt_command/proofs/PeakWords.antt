@@ -14,7 +14,7 @@ use Rattle.mmt_command.specs.declared.words.Command.TheVariants as command
 use Rattle.mmt_command.proofs.FlowTexts.{flow_text_once}
 use Rattle.mmt_command.proofs.Names.{asked_peak}
 use Rattle.mmt_command.proofs.Places.{word_of}
-use Rattle.mmt_command.proofs.Wrong.{wrong_behind}
+use Rattle.mmt_command.proofs.Wrong.{wrong_after}
 
 -- the words of `peak`
 peak_inside : (words : List (List ℕ)) → IsCommand (codes "peak" ∷ words) → (r : Params) × (choice : FlowChoice) × (codes "peak" ∷ words ≡ peak_words r (flow_words choice)) × HasRanges r × HasChoiceRange choice
@@ -32,12 +32,12 @@ begun d low high = record { delay = low; window_low = omega arith; window_high =
 pub no_delay : (words : List (List ℕ)) (index : ℕ) → NoOption (codes "--delay") 1 16777215 1 words index → IsWrongAt IsCommand (codes "peak" ∷ words) index
 no_delay words index (inl (at, other)) =
     subst (λ i. IsWrongAt IsCommand (codes "peak" ∷ words) i) (sym at)
-    (wrong_behind IsCommand (codes "peak" ∷ []) words (_, completed (record { bound = 1; window = 1 + 1; delay = 1 }) (begun 1 (omega arith) (omega arith)))
+    (wrong_after IsCommand (codes "peak" ∷ []) words (_, completed (record { bound = 1; window = 1 + 1; delay = 1 }) (begun 1 (omega arith) (omega arith)))
     (λ e c. let p = peak_inside [] c in omega (arith, ap length p.2))
     (λ w more tail e c. let p = peak_inside (w ∷ tail) c in other more (e ∙ ap (λ x. x ∷ more) (word_of 1 _ _ p.2))))
 no_delay words index (inr (at, rest, is, other)) =
     subst (λ i. IsWrongAt IsCommand (codes "peak" ∷ words) i) (sym at) (subst (λ x. IsWrongAt IsCommand (codes "peak" ∷ x) 2) (sym is)
-    (wrong_behind IsCommand (codes "peak" ∷ codes "--delay" ∷ []) rest (_, completed (record { bound = 1; window = 1 + 1; delay = 1 }) (begun 1 (omega arith) (omega arith)))
+    (wrong_after IsCommand (codes "peak" ∷ codes "--delay" ∷ []) rest (_, completed (record { bound = 1; window = 1 + 1; delay = 1 }) (begun 1 (omega arith) (omega arith)))
     (λ e c. let p = peak_inside (codes "--delay" ∷ []) c in omega (arith, ap length p.2))
     (λ w more tail e c. let p = peak_inside (codes "--delay" ∷ w ∷ tail) c in let r = p.3 in other p.0.delay more r.delay (omega arith) (e ∙ ap (λ x. x ∷ more) (word_of 2 _ _ p.2)))))
 
@@ -45,12 +45,12 @@ pub no_window : (d : ℕ) (words : List (List ℕ)) (index : ℕ) → 1 ≤ d �
     → IsWrongAt IsCommand (codes "peak" ∷ codes "--delay" ∷ decimal d ∷ words) index
 no_window d words index low high (inl (at, other)) =
     subst (λ i. IsWrongAt IsCommand (codes "peak" ∷ codes "--delay" ∷ decimal d ∷ words) i) (sym at)
-    (wrong_behind IsCommand (codes "peak" ∷ codes "--delay" ∷ decimal d ∷ []) words (_, completed (record { bound = 1; window = d + 1; delay = d }) (begun d low high))
+    (wrong_after IsCommand (codes "peak" ∷ codes "--delay" ∷ decimal d ∷ []) words (_, completed (record { bound = 1; window = d + 1; delay = d }) (begun d low high))
     (λ e c. let p = peak_inside (codes "--delay" ∷ decimal d ∷ []) c in omega (arith, ap length p.2))
     (λ w more tail e c. let p = peak_inside (codes "--delay" ∷ decimal d ∷ w ∷ tail) c in other more (e ∙ ap (λ x. x ∷ more) (word_of 3 _ _ p.2))))
 no_window d words index low high (inr (at, rest, is, other)) =
     subst (λ i. IsWrongAt IsCommand (codes "peak" ∷ codes "--delay" ∷ decimal d ∷ words) i) (sym at) (subst (λ x. IsWrongAt IsCommand (codes "peak" ∷ codes "--delay" ∷ decimal d ∷ x) 4) (sym is)
-    (wrong_behind IsCommand (codes "peak" ∷ codes "--delay" ∷ decimal d ∷ codes "--window" ∷ []) rest (_, completed (record { bound = 1; window = d + 1; delay = d }) (begun d low high))
+    (wrong_after IsCommand (codes "peak" ∷ codes "--delay" ∷ decimal d ∷ codes "--window" ∷ []) rest (_, completed (record { bound = 1; window = d + 1; delay = d }) (begun d low high))
     (λ e c. let p = peak_inside (codes "--delay" ∷ decimal d ∷ codes "--window" ∷ []) c in omega (arith, ap length p.2))
     (λ w more tail e c.
     let p = peak_inside (codes "--delay" ∷ decimal d ∷ codes "--window" ∷ w ∷ tail) c in let r = p.3 in
@@ -60,19 +60,19 @@ pub no_bound : (d w : ℕ) (words : List (List ℕ)) (index : ℕ) → HasRanges
     → IsWrongAt IsCommand (codes "peak" ∷ codes "--delay" ∷ decimal d ∷ codes "--window" ∷ decimal w ∷ words) index
 no_bound d w words index ranges (inl (at, other)) =
     subst (λ i. IsWrongAt IsCommand (codes "peak" ∷ codes "--delay" ∷ decimal d ∷ codes "--window" ∷ decimal w ∷ words) i) (sym at)
-    (wrong_behind IsCommand (codes "peak" ∷ codes "--delay" ∷ decimal d ∷ codes "--window" ∷ decimal w ∷ []) words (_, completed (record { bound = 1; window = w; delay = d }) ranges)
+    (wrong_after IsCommand (codes "peak" ∷ codes "--delay" ∷ decimal d ∷ codes "--window" ∷ decimal w ∷ []) words (_, completed (record { bound = 1; window = w; delay = d }) ranges)
     (λ e c. let p = peak_inside (codes "--delay" ∷ decimal d ∷ codes "--window" ∷ decimal w ∷ []) c in omega (arith, ap length p.2))
     (λ v more tail e c. let p = peak_inside (codes "--delay" ∷ decimal d ∷ codes "--window" ∷ decimal w ∷ v ∷ tail) c in other more (e ∙ ap (λ x. x ∷ more) (word_of 5 _ _ p.2))))
 no_bound d w words index ranges (inr (at, rest, is, other)) =
     subst (λ i. IsWrongAt IsCommand (codes "peak" ∷ codes "--delay" ∷ decimal d ∷ codes "--window" ∷ decimal w ∷ words) i) (sym at)
     (subst (λ x. IsWrongAt IsCommand (codes "peak" ∷ codes "--delay" ∷ decimal d ∷ codes "--window" ∷ decimal w ∷ x) 6) (sym is)
-    (wrong_behind IsCommand (codes "peak" ∷ codes "--delay" ∷ decimal d ∷ codes "--window" ∷ decimal w ∷ codes "--bound" ∷ []) rest (_, completed (record { bound = 1; window = w; delay = d }) ranges)
+    (wrong_after IsCommand (codes "peak" ∷ codes "--delay" ∷ decimal d ∷ codes "--window" ∷ decimal w ∷ codes "--bound" ∷ []) rest (_, completed (record { bound = 1; window = w; delay = d }) ranges)
     (λ e c. let p = peak_inside (codes "--delay" ∷ decimal d ∷ codes "--window" ∷ decimal w ∷ codes "--bound" ∷ []) c in omega (arith, ap length p.2))
     (λ v more tail e c.
     let p = peak_inside (codes "--delay" ∷ decimal d ∷ codes "--window" ∷ decimal w ∷ codes "--bound" ∷ v ∷ tail) c in let r = p.3 in
     other p.0.bound more (omega arith) (omega arith) (e ∙ ap (λ x. x ∷ more) (word_of 6 _ _ p.2)))))
 
--- the words behind the bound choose a flow
+-- the words after the bound choose a flow
 flow_inside : (r : Params) (words : List (List ℕ)) → IsCommand (peak_words r words) → (choice : FlowChoice) × (words ≡ flow_words choice) × HasChoiceRange choice
 flow_inside r words c = let p = peak_inside (drop 1 (peak_words r words)) c in (p.1, ap (λ x. drop 7 x) p.2, p.4)
 
@@ -101,16 +101,16 @@ chosen r f ranges range = (command.Peak (flow.One f) r, (refl, ranges, range))
 pub no_flow : (r : Params) (words : List (List ℕ)) (index : ℕ) → HasRanges r → NoFlow words index → IsWrongAt IsCommand (peak_words r words) index
 no_flow r words index ranges (inl (at, some, other)) =
     subst (λ i. IsWrongAt IsCommand (peak_words r words) i) (sym at)
-    (wrong_behind IsCommand (peak_words r []) words ([], completed r ranges) (λ e c. some e)
+    (wrong_after IsCommand (peak_words r []) words ([], completed r ranges) (λ e c. some e)
     (λ v more tail e c. let p = flow_inside r (v ∷ tail) c in other more (e ∙ ap (λ x. x ∷ more) (one_name p.0 v tail p.1))))
 no_flow r words index ranges (inr (inl (at, rest, is, other))) =
     subst (λ i. IsWrongAt IsCommand (peak_words r words) i) (sym at) (subst (λ x. IsWrongAt IsCommand (peak_words r x) 8) (sym is)
-    (wrong_behind IsCommand (peak_words r (codes "--flow" ∷ [])) rest (flow_text first_flow ∷ [], chosen r first_flow ranges first_range)
+    (wrong_after IsCommand (peak_words r (codes "--flow" ∷ [])) rest (flow_text first_flow ∷ [], chosen r first_flow ranges first_range)
     (λ e c. let p = flow_inside r (codes "--flow" ∷ []) c in not_alone p.0 (codes "--flow") p.1)
     (λ v more tail e c. let p = flow_inside r (codes "--flow" ∷ v ∷ tail) c in let q = one_flow p.0 (codes "--flow") v tail p.1 p.2 in other q.0 more q.2 (e ∙ ap (λ x. x ∷ more) q.1))))
 no_flow r words index ranges (inr (inr (at, f, rest, is, range, some))) =
     subst (λ i. IsWrongAt IsCommand (peak_words r words) i) (sym at) (subst (λ x. IsWrongAt IsCommand (peak_words r x) 9) (sym is)
-    (wrong_behind IsCommand (peak_words r (codes "--flow" ∷ flow_text f ∷ [])) rest ([], chosen r f ranges range) (λ e c. some e)
+    (wrong_after IsCommand (peak_words r (codes "--flow" ∷ flow_text f ∷ [])) rest ([], chosen r f ranges range) (λ e c. some e)
     (λ v more tail e c. let p = flow_inside r (codes "--flow" ∷ flow_text f ∷ v ∷ tail) c in let q = one_flow p.0 (codes "--flow") (flow_text f) (v ∷ tail) p.1 p.2 in omega (arith, ap length q.3))))
 
 same_choice : (a b : FlowChoice) → flow_words a ≡ flow_words b → HasChoiceRange a → HasChoiceRange b → a ≡ b

@@ -5,7 +5,7 @@ use Rattle.std.specs.Prelude.{String, string_bytes}
 use Rattle.std.specs.declared.alloc.Global.{Global}
 use Rattle.mmt_command.specs.Words.{texts}
 
--- the texts from a place on are that of the word there and those behind it
+-- the texts from a place on are that of the word there and those after it
 pub word_at : (words : List (String Global)) (at : ℕ) (w : String Global) → at < length words → w ≡ get_or words at w → drop at (texts words) ≡ string_bytes w ∷ drop (at + 1) (texts words)
 word_at words at w lt is =
     drop-map string_bytes at words

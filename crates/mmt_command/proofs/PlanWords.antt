@@ -5,16 +5,16 @@ use Rattle.mmt_command.specs.Words.{IsWrongAt}
 use Rattle.mmt_command.specs.Commands.{Asks, IsCommand}
 use Rattle.mmt_command.specs.declared.words.Command.TheVariants as command
 use Rattle.mmt_command.proofs.Names.{asked_mux, asked_trial}
-use Rattle.mmt_command.proofs.Wrong.{wrong_behind}
+use Rattle.mmt_command.proofs.Wrong.{wrong_after}
 
 -- ---- `mux`
 
 mux_alone : IsWrongAt IsCommand (codes "mux" ∷ []) 1
-mux_alone = wrong_behind IsCommand (codes "mux" ∷ []) [] ([] ∷ [], (command.Mux, ([], refl))) (λ e c. (let is = asked_mux [] c in omega (arith, ap length is.1))) (λ w more tail e c. omega (arith, ap length e))
+mux_alone = wrong_after IsCommand (codes "mux" ∷ []) [] ([] ∷ [], (command.Mux, ([], refl))) (λ e c. (let is = asked_mux [] c in omega (arith, ap length is.1))) (λ w more tail e c. omega (arith, ap length e))
 
 after_mux : (name : List ℕ) (words : List (List ℕ)) → (words ≡ [] → ⊥) → IsWrongAt IsCommand (codes "mux" ∷ name ∷ words) 2
 after_mux name words some =
-    wrong_behind IsCommand (codes "mux" ∷ name ∷ []) words ([], (command.Mux, (name, refl))) (λ e c. some e) (λ w more tail e c. (let is = asked_mux (name ∷ w ∷ tail) c in omega (arith, ap length is.1)))
+    wrong_after IsCommand (codes "mux" ∷ name ∷ []) words ([], (command.Mux, (name, refl))) (λ e c. some e) (λ w more tail e c. (let is = asked_mux (name ∷ w ∷ tail) c in omega (arith, ap length is.1)))
 
 -- two words that begin with it are `mux`, and others are wrong after the first or the second
 pub mux_given : (words : List (List ℕ)) → words ≡ codes "mux" ∷ drop 1 words → length words ≡ 2 → Asks command.Mux words
@@ -37,14 +37,14 @@ mux_wrong_two (a ∷ b ∷ c ∷ more) e l = subst (λ x. IsWrongAt IsCommand x 
 -- ---- `trial`
 
 trial_alone : IsWrongAt IsCommand (codes "trial" ∷ []) 1
-trial_alone = wrong_behind IsCommand (codes "trial" ∷ []) [] ([] ∷ [] ∷ [], (command.Trial, ([], [], refl))) (λ e c. (let is = asked_trial [] c in omega (arith, ap length is.2))) (λ w more tail e c. omega (arith, ap length e))
+trial_alone = wrong_after IsCommand (codes "trial" ∷ []) [] ([] ∷ [] ∷ [], (command.Trial, ([], [], refl))) (λ e c. (let is = asked_trial [] c in omega (arith, ap length is.2))) (λ w more tail e c. omega (arith, ap length e))
 
 trial_half : (plan : List ℕ) → IsWrongAt IsCommand (codes "trial" ∷ plan ∷ []) 2
-trial_half plan = wrong_behind IsCommand (codes "trial" ∷ plan ∷ []) [] ([] ∷ [], (command.Trial, (plan, [], refl))) (λ e c. (let is = asked_trial (plan ∷ []) c in omega (arith, ap length is.2))) (λ w more tail e c. omega (arith, ap length e))
+trial_half plan = wrong_after IsCommand (codes "trial" ∷ plan ∷ []) [] ([] ∷ [], (command.Trial, (plan, [], refl))) (λ e c. (let is = asked_trial (plan ∷ []) c in omega (arith, ap length is.2))) (λ w more tail e c. omega (arith, ap length e))
 
 after_trial : (plan list : List ℕ) (words : List (List ℕ)) → (words ≡ [] → ⊥) → IsWrongAt IsCommand (codes "trial" ∷ plan ∷ list ∷ words) 3
 after_trial plan list words some =
-    wrong_behind IsCommand (codes "trial" ∷ plan ∷ list ∷ []) words ([], (command.Trial, (plan, list, refl))) (λ e c. some e)
+    wrong_after IsCommand (codes "trial" ∷ plan ∷ list ∷ []) words ([], (command.Trial, (plan, list, refl))) (λ e c. some e)
     (λ w more tail e c. (let is = asked_trial (plan ∷ list ∷ w ∷ tail) c in omega (arith, ap length is.2)))
 
 -- three words that begin with it are `trial`, fewer are wrong at their end, and more after the third

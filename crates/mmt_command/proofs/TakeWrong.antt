@@ -13,7 +13,7 @@ use Rattle.mmt_command.specs.declared.words.Command.TheVariants as command
 use Rattle.mmt_command.proofs.Names.{asked_take}
 use Rattle.mmt_command.proofs.OptionWords.{rest_of, words_more, GoesOn, goes_from, not_again}
 use Rattle.mmt_command.proofs.TakeGiven.{asked}
-use Rattle.mmt_command.proofs.Wrong.{wrong_behind}
+use Rattle.mmt_command.proofs.Wrong.{wrong_after}
 
 take_inside : (words : List (List ℕ)) → IsCommand (codes "take" ∷ words) → (o : TakeOptions) × AsksTake o (codes "take" ∷ words)
 take_inside words c = asked_take words c
@@ -25,18 +25,18 @@ goes_on os w tail x c =
     let r = rest_of os a.options (w ∷ tail) x a.ranges (ap (λ l. drop 1 l) a.spelled) in
     goes_from os a.options r.0 w tail a.ranges a.different r.1 r.2
 
--- a word behind whole options with which no command goes on
-wrong_after : (given : Given) (os : List TakeOption) (rest : List (List ℕ)) → HasGiven given os → (rest ≡ [] → ⊥) → ((w : List ℕ) (more tail : List (List ℕ)) → rest ≡ w ∷ more → GoesOn os w tail → ⊥)
+-- a word after whole options with which no command goes on
+wrong_after_options : (given : Given) (os : List TakeOption) (rest : List (List ℕ)) → HasGiven given os → (rest ≡ [] → ⊥) → ((w : List ℕ) (more tail : List (List ℕ)) → rest ≡ w ∷ more → GoesOn os w tail → ⊥)
     → IsWrongAt IsCommand (take_words os ++ rest) (length (take_words os))
-wrong_after given os rest h some other =
-    wrong_behind IsCommand (take_words os) rest ([], (command.Take (taken given), asked given os _ h (append-nil (take_words os)))) (λ e c. some e)
+wrong_after_options given os rest h some other =
+    wrong_after IsCommand (take_words os) rest ([], (command.Take (taken given), asked given os _ h (append-nil (take_words os)))) (λ e c. some e)
     (λ w more tail e c. other w more tail e (goes_on os w tail h.ranges c))
 
 pub wrong_name : (given : Given) (words : List (List ℕ)) (at : ℕ) (r : HasRead given words at) → (drop at words ≡ [] → ⊥) → ((w : List ℕ) (more tail : List (List ℕ)) → drop at words ≡ w ∷ more → GoesOn r.options w tail → ⊥)
     → IsWrongAt IsCommand words at
 wrong_name given words at r some other =
     subst (λ i. IsWrongAt IsCommand words i) (sym r.place)
-    (subst (λ w. IsWrongAt IsCommand w (length (take_words r.options))) (sym r.spelled) (wrong_after given r.options (drop at words) r.values some other))
+    (subst (λ w. IsWrongAt IsCommand w (length (take_words r.options))) (sym r.spelled) (wrong_after_options given r.options (drop at words) r.values some other))
 
 -- the name of an option that has been given
 pub wrong_again : (given : Given) (words : List (List ℕ)) (at : ℕ) (name : List ℕ) (o : TakeOption) (r : HasRead given words at) → drop at words ≡ name ∷ drop (at + 1) words → name ≡ option_name o → Contains r.options o → IsWrongAt IsCommand words at
@@ -48,10 +48,10 @@ begins_value : (more : Given) (os : List TakeOption) (o : TakeOption) → HasGiv
 begins_value more os o h =
     (option_value o ∷ [], (command.Take (taken more), asked more (os ++ o ∷ []) _ h (append_assoc (take_words os) (option_name o ∷ []) (option_value o ∷ []) ∙ sym (words_more os o))))
 
-wrong_behind_name : (more : Given) (os : List TakeOption) (o : TakeOption) (rest : List (List ℕ)) → HasGiven more (os ++ o ∷ []) → All HasOptionRange os
+wrong_after_name : (more : Given) (os : List TakeOption) (o : TakeOption) (rest : List (List ℕ)) → HasGiven more (os ++ o ∷ []) → All HasOptionRange os
     → ((q : TakeOption) (others : List (List ℕ)) → option_name o ≡ option_name q → HasOptionRange q → rest ≡ option_value q ∷ others → ⊥) → IsWrongAt IsCommand ((take_words os ++ option_name o ∷ []) ++ rest) (length (take_words os ++ option_name o ∷ []))
-wrong_behind_name more os o rest h x other =
-    wrong_behind IsCommand (take_words os ++ option_name o ∷ []) rest (begins_value more os o h)
+wrong_after_name more os o rest h x other =
+    wrong_after IsCommand (take_words os ++ option_name o ∷ []) rest (begins_value more os o h)
     (λ e c. let g = goes_on os (option_name o) [] x c in omega (arith, ap length g.value))
     (λ w others tail e c.
     let g = goes_on os (option_name o) (w ∷ tail) x (subst (λ l. IsCommand l) (append_assoc (take_words os) (option_name o ∷ []) (w ∷ tail)) c) in
@@ -63,7 +63,7 @@ wrong_value given more words at o r h is other =
     let place : length (take_words r.options ++ option_name o ∷ []) ≡ at + 1 = length_push (take_words r.options) (option_name o) ∙ ap (λ n. n + 1) (sym r.place) in
     let spelled : (take_words r.options ++ option_name o ∷ []) ++ drop (at + 1) words ≡ words = append_assoc (take_words r.options) (option_name o ∷ []) (drop (at + 1) words) ∙ (ap (λ l. take_words r.options ++ l) (sym is) ∙ sym r.spelled) in
     subst (λ i. IsWrongAt IsCommand words i) place
-    (subst (λ w. IsWrongAt IsCommand w (length (take_words r.options ++ option_name o ∷ []))) spelled (wrong_behind_name more r.options o (drop (at + 1) words) h r.values.ranges other))
+    (subst (λ w. IsWrongAt IsCommand w (length (take_words r.options ++ option_name o ∷ []))) spelled (wrong_after_name more r.options o (drop (at + 1) words) h r.values.ranges other))
 
 -- a word that names no option
 pub no_option : (q : TakeOption) (rest : List (List ℕ)) (w : List ℕ) (more : List (List ℕ)) → rest ≡ w ∷ more → w ≡ option_name q → ((l : List (List ℕ)) → rest ≡ codes "--bound" ∷ l → ⊥) → ((l : List (List ℕ)) → rest ≡ codes "--flow" ∷ l → ⊥)

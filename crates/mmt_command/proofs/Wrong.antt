@@ -51,8 +51,8 @@ wrong_later commands word words index wrong = record {
   ];
 }
 
--- the words are wrong behind a front with which some command begins, where no command has the next word there, or there is none and the front is no command
-pub wrong_behind : (commands : List (List ℕ) → Type 0) (front words : List (List ℕ)) → BeginsCommand commands front → (words ≡ [] → commands front → ⊥)
+-- the words are wrong after a front with which some command begins, where no command has the next word there, or there is none and the front is no command
+pub wrong_after : (commands : List (List ℕ) → Type 0) (front words : List (List ℕ)) → BeginsCommand commands front → (words ≡ [] → commands front → ⊥)
     → ((word : List ℕ) (more tail : List (List ℕ)) → words ≡ word ∷ more → commands (front ++ word ∷ tail) → ⊥) → IsWrongAt commands (front ++ words) (length front)
-wrong_behind commands [] words begins none other = wrong_first commands words begins none other
-wrong_behind commands (w ∷ front) words begins none other = wrong_later commands w (front ++ words) (length front) (wrong_behind (λ x. commands (w ∷ x)) front words begins none other)
+wrong_after commands [] words begins none other = wrong_first commands words begins none other
+wrong_after commands (w ∷ front) words begins none other = wrong_later commands w (front ++ words) (length front) (wrong_after (λ x. commands (w ∷ x)) front words begins none other)

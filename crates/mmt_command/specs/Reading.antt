@@ -36,7 +36,7 @@ pub record HasRead (given : Given) (words : List (List ℕ)) (at : ℕ) : Type 0
   pub place : at ≡ length (take_words options)
   pub counted : at ≡ 1 + 2 * given_count given
 
--- the flow alone where one is given, and else any (this project's rule)
+-- the flow alone where one is given, otherwise any (this project's rule)
 abbrev pub choice_of : Option Flow → FlowChoice
 choice_of None = flow.Any
 choice_of (Some f) = flow.One f

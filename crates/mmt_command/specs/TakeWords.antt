@@ -30,7 +30,7 @@ option_name (sample_base b) = codes "--sample-base"
 option_name (timescale t) = codes "--timescale"
 option_name (assume w d) = codes "--assume"
 
--- the word behind the option's name (this project's rule)
+-- the word after the option's name (this project's rule)
 abbrev pub option_value : TakeOption → List ℕ
 option_value (bound n) = decimal n
 option_value (chosen f) = flow_text f

@@ -3,9 +3,11 @@
 
 mod assumed;
 mod flows;
+mod gateway_words;
 mod make_words;
 mod numbers;
 mod options;
+mod pace_words;
 mod peak_words;
 #[cfg(test)]
 mod plan_tests;

@@ -27,7 +27,7 @@ const DEFAULT_BOUND: u32 = 1 << 26;
 // Where the words give no timescale, in units a second.
 const DEFAULT_TIMESCALE: u32 = 90_000;
 
-// The flow alone where one is given, and else any.
+// The flow alone where one is given, otherwise any.
 fn choice(flow: Option<Flow>) -> FlowChoice
     ensures { result ≡ choice_of flow }
 {
@@ -61,7 +61,7 @@ impl Given {
     }
 }
 
-// The bound behind its name.
+// The bound after its name.
 fn bound_at(words: &[String], at: usize, given: Given) -> Result<Given, u32>
     requires read { HasRead given (texts words.now) at }
     requires name { drop at (texts words.now) ≡ codes "--bound" ∷ drop (at + 1) (texts words.now) }
@@ -80,7 +80,7 @@ fn bound_at(words: &[String], at: usize, given: Given) -> Result<Given, u32>
     }
 }
 
-// The flow behind its name.
+// The flow after its name.
 fn chosen_at(words: &[String], at: usize, given: Given) -> Result<Given, u32>
     requires read { HasRead given (texts words.now) at }
     requires name { drop at (texts words.now) ≡ codes "--flow" ∷ drop (at + 1) (texts words.now) }
@@ -99,7 +99,7 @@ fn chosen_at(words: &[String], at: usize, given: Given) -> Result<Given, u32>
     }
 }
 
-// The number of the first sample behind its name.
+// The number of the first sample after its name.
 fn base_at(words: &[String], at: usize, given: Given) -> Result<Given, u32>
     requires read { HasRead given (texts words.now) at }
     requires name { drop at (texts words.now) ≡ codes "--sample-base" ∷ drop (at + 1) (texts words.now) }
@@ -118,7 +118,7 @@ fn base_at(words: &[String], at: usize, given: Given) -> Result<Given, u32>
     }
 }
 
-// The timescale behind its name.
+// The timescale after its name.
 fn timescale_at(words: &[String], at: usize, given: Given) -> Result<Given, u32>
     requires read { HasRead given (texts words.now) at }
     requires name { drop at (texts words.now) ≡ codes "--timescale" ∷ drop (at + 1) (texts words.now) }
@@ -137,7 +137,7 @@ fn timescale_at(words: &[String], at: usize, given: Given) -> Result<Given, u32>
     }
 }
 
-// The window and the delay behind their name.
+// The window and the delay after their name.
 fn window_at(words: &[String], at: usize, given: Given) -> Result<Given, u32>
     requires read { HasRead given (texts words.now) at }
     requires name { drop at (texts words.now) ≡ codes "--assume" ∷ drop (at + 1) (texts words.now) }

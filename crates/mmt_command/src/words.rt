@@ -3,8 +3,10 @@ ghost use Rattle.std.specs.Prelude.{◌≡◌, ◌∷◌, [], drop, codes, IfOk,
 ghost use Rattle.mmt_command.specs.Words.{texts, IsWrongAt};
 ghost use Rattle.mmt_command.specs.Commands.{Asks, IsCommand};
 
+use crate::gateway_words::{expand_of, squeeze_of};
 use crate::make_words::make_of;
 use crate::numbers::is_at;
+use crate::pace_words::pace_of;
 use crate::peak_words::peak_of;
 use crate::plan_words::{mux_of, trial_of};
 use crate::take_words::{TakeOptions, take_of};
@@ -26,6 +28,14 @@ pub enum Command {
     Trial,
     /// Writes one line of what a receiver gave back of the programme and the delivery that come from a number.
     Make { seed: u16 },
+    /// Reads a stream, and writes it with every compressed header expanded.
+    Expand,
+    /// Reads a stream, and writes it with every plain header compressed. The context ids are given out from this one
+    /// on, and each context sends a full header once in `full_every` packets.
+    Squeeze { context: u16, full_every: u32 },
+    /// Reads a plan, whose file the second word names, and the plan's files, and writes the stream of its programme with
+    /// each packet in a slot of its own, the slots this many ticks apart.
+    Pace { step: u32 },
 }
 
 // The same of words that begin with `list`.
@@ -64,6 +74,15 @@ pub fn command_of(words: &[String]) -> Result<Command, u32>
     }
     if is_at(words, 0, "make") {
         return make_of(words);
+    }
+    if is_at(words, 0, "expand") {
+        return expand_of(words);
+    }
+    if is_at(words, 0, "squeeze") {
+        return squeeze_of(words);
+    }
+    if is_at(words, 0, "pace") {
+        return pace_of(words);
     }
     Err(0)
 }

@@ -1,5 +1,5 @@
 -- How a run of `trial` ends.
-use Rattle.std.proofs.Common.{◌≡◌, ℕ, Bool, IsTrue, inr, List, length, Option, Result, Ok, Err, refl, sym, subst}
+use Rattle.std.proofs.Common.{◌≡◌, ℕ, Bool, IsTrue, inr, List, length, Option, Ok, Err, subst}
 use Rattle.mmt_cast.specs.Casting.{cast_of}
 use Rattle.mmt_desk.specs.Answers.{IsTrialAnswer, trial_end}
 use Rattle.mmt_desk.specs.Lists.{IsListAnswer}

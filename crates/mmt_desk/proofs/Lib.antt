@@ -1,3 +1,4 @@
 pub mod Ended
 pub mod Lists
 pub mod Places
+pub mod WholeFiles

@@ -1,11 +1,11 @@
 -- The file of a list of deliveries.
-use Rattle.std.proofs.Common.{◌≡◌, ℕ, ◌+◌, ◌<◌, ◌≤◌, Bool, true, false, cond, nat_lt, IsTrue, List, [], ◌∷◌, ◌++◌, length, Option, Some, None, Result, Ok, Err, arith, refl, ap, sym, ◌∙◌, subst}
+use Rattle.std.proofs.Common.{◌≡◌, ℕ, ◌≤◌, Bool, true, false, cond, nat_lt, List, [], ◌∷◌, length, Option, Some, None, Ok, Err, arith, refl, ap, sym, ◌∙◌, subst}
 use Rattle.std.specs.List.{flat_map}
 use Rattle.std.proofs.lemmas.Bool.{ltb-true, ltb-false}
 use Rattle.std.proofs.lemmas.List.{length-append}
 use Rattle.mmt_channel.specs.Lists.{IsListText, IsRefusedAt, line_of}
 use Rattle.mmt_desk.specs.Lists.{IsListIn, IsNoList, line_place}
-use Rattle.mmt_plan.specs.Plan.{IsOutcome, IsReadOf, bytes_of, top_place}
+use Rattle.mmt_plan.specs.Plan.{bytes_of}
 use Rattle.mmt_plan.specs.declared.ends.PlanPlace.{PlanPlace}
 use Rattle.mmt_plan.specs.declared.ends.Reason.{Reason}
 use Rattle.mmt_plan.specs.declared.ends.Reason.TheVariants as reasons

@@ -54,15 +54,7 @@ trial_end cast trials.ReadFault = ends.ReadFault
 trial_end cast (trials.UnitShort unit len got) = ends.Refused reasons.UnitShort (unit_place cast unit)
 trial_end cast trials.OutOfMemory = ends.OutOfMemory
 
--- a write failed, or there was no memory
-abbrev pub IsHalt : MuxEnd → Type 0
-IsHalt ends.WriteFault = Unit {0}
-IsHalt ends.OutOfMemory = Unit {0}
-IsHalt (ends.Refused reason place) = ⊥
-IsHalt (ends.NotAdmitted refusal) = ⊥
-IsHalt ends.ReadFault = ⊥
-
--- what a run writes: the line of its numbers, or, where the write failed or there was no memory for it, a prefix of it; and nothing where there are no numbers
+-- what a run writes: the line of its numbers; a prefix of it where the write failed; and nothing where there are no numbers, a read failed or there was no memory
 abbrev pub Tells : (List ℕ → Option (List ℕ)) → List ℕ → List ℕ → Result (Unit {0}) MuxEnd → List Event → List Event → Type 0
 Tells file plan list (Ok x) old new = (t : Tried) × HasTried file plan list t × Puts old new (only_written (line_of t))
-Tells file plan list (Err end) old new = (IsTrialAnswer file plan list (Err end) × (new ≡ old)) ⊎ ((t : Tried) × HasTried file plan list t × IsHalt end × PutsPrefix old new (only_written (line_of t)))
+Tells file plan list (Err end) old new = (IsTrialAnswer file plan list (Err end) × (new ≡ old)) ⊎ ((t : Tried) × HasTried file plan list t × (end ≡ ends.WriteFault) × PutsPrefix old new (only_written (line_of t)))

@@ -17,7 +17,7 @@ line_place line = record { part = parts.Line; a = line; b = 0; c = 0; field = 0 
 abbrev pub AreBelow : ℕ → List ℕ → Type 0
 AreBelow sent list = AllByRecursion (λ d. d < sent) list
 
--- the file is there, has at most 16,777,216 bytes, and is the text of this list of places of so many packets
+-- the file is there, has at most 16,777,216 bytes, and is the text of this list of places among `sent` packets
 abbrev pub IsListIn : Option (List ℕ) → ℕ → List ℕ → Type 0
 IsListIn (Some bytes) sent list = (length bytes ≤ 16777216) × IsListText sent bytes list
 IsListIn None sent list = ⊥

@@ -8,6 +8,7 @@ mod planning;
 mod running;
 mod telling;
 mod trying;
+mod unfailing;
 
 pub use making::make;
 pub use running::run_trial;

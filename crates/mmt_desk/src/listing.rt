@@ -48,7 +48,8 @@ pub fn read_list<H: Shelf>(
     name: &str,
     sent: u32,
 ) -> Result<List<u32>, MuxEnd>
-    ensures shelf { Stays (H.tells shelf.old) (H.tells shelf.new) (H.file shelf.old) (H.file shelf.new) (H.faults shelf.old) (H.faults shelf.new) }
+    ensures shelf { Stays (H.tells shelf.old) (H.tells shelf.new) (H.file shelf.old) (H.file shelf.new)
+        (H.faults shelf.old) (H.faults shelf.new) }
     ensures fault { IsErrOf result MuxEnd.ReadFault → Rose (H.faults shelf.old) (H.faults shelf.new) }
     ensures never { IsErrOf result MuxEnd.WriteFault → ⊥ }
     ensures places { IfOk result (λ list. AreBelow sent list) }

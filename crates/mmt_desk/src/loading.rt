@@ -39,7 +39,8 @@ fn load_by<H: Shelf>(
     piece: &mut [u8],
 ) -> Result<Vec<u8>, PlanEnd>
     requires { 0 < length piece.old }
-    ensures shelf { Stays (H.tells shelf.old) (H.tells shelf.new) (H.file shelf.old) (H.file shelf.new) (H.faults shelf.old) (H.faults shelf.new) }
+    ensures shelf { Stays (H.tells shelf.old) (H.tells shelf.new) (H.file shelf.old) (H.file shelf.new)
+        (H.faults shelf.old) (H.faults shelf.new) }
     ensures fault { IsErrOf result PlanEnd.ReadFault → Rose (H.faults shelf.old) (H.faults shelf.new) }
     ensures bytes { IsReadOf bytes_of (H.tells shelf.old) (H.file shelf.old name.now) (ok_map (λ v. v.items) result) }
     ensures size { IfOk result (λ v. length v.items ≤ 16777216) }
@@ -68,7 +69,8 @@ fn load_by<H: Shelf>(
 
 /// The bytes of the file of a name, told as those of a plan are. It takes the memory of a buffer and of these bytes.
 pub fn load<H: Shelf>(alloc: Global, shelf: &mut H, name: &str) -> Result<Vec<u8>, PlanEnd>
-    ensures shelf { Stays (H.tells shelf.old) (H.tells shelf.new) (H.file shelf.old) (H.file shelf.new) (H.faults shelf.old) (H.faults shelf.new) }
+    ensures shelf { Stays (H.tells shelf.old) (H.tells shelf.new) (H.file shelf.old) (H.file shelf.new)
+        (H.faults shelf.old) (H.faults shelf.new) }
     ensures fault { IsErrOf result PlanEnd.ReadFault → Rose (H.faults shelf.old) (H.faults shelf.new) }
     ensures bytes { IsReadOf bytes_of (H.tells shelf.old) (H.file shelf.old name.now) (ok_map (λ v. v.items) result) }
     ensures size { IfOk result (λ v. length v.items ≤ 16777216) }

@@ -17,7 +17,8 @@ use std::alloc::Global;
 /// # Errors
 ///
 /// The first of these that is refused; then nothing was written. `ReadFault` only where the shelf's count of faults rose, and
-/// `WriteFault` only where the port's count of writes that failed did; then a prefix of the line was written.
+/// then nothing was written. `WriteFault` only where the port's count of writes that failed did; then a prefix of the line was
+/// written. `OutOfMemory` where there was no memory; then nothing was written.
 pub fn run_trial<H: Shelf, P: Port>(
     alloc: Global,
     plan: &str,
@@ -25,7 +26,8 @@ pub fn run_trial<H: Shelf, P: Port>(
     shelf: &mut H,
     port: &mut P,
 ) -> Result<(), MuxEnd>
-    ensures shelf { Stays (H.tells shelf.old) (H.tells shelf.new) (H.file shelf.old) (H.file shelf.new) (H.faults shelf.old) (H.faults shelf.new) }
+    ensures shelf { Stays (H.tells shelf.old) (H.tells shelf.new) (H.file shelf.old) (H.file shelf.new)
+        (H.faults shelf.old) (H.faults shelf.new) }
     ensures sends { OnlySends P.tells P.left P.read_faults P.write_faults port.old port.new }
     ensures read_fault { IsErrOf result MuxEnd.ReadFault → Rose (H.faults shelf.old) (H.faults shelf.new) }
     ensures write_fault { IsErrOf result MuxEnd.WriteFault → Rose (P.write_faults port.old) (P.write_faults port.new) }

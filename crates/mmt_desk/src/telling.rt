@@ -1,8 +1,7 @@
 //! The line of a trial.
 
 ghost use Rattle.std.specs.Prelude.{◌≡◌, IsTrue, IsErrOf, IfOk, string_bytes};
-ghost use Rattle.mmt_desk.specs.Lines.{line_of};
-ghost use Rattle.mmt_io.specs.Output.{Put, only_written};
+ghost use Rattle.mmt_desk.specs.Lines.{PutsLine, line_of};
 ghost use Rattle.mmt_io.specs.Port.{OnlySends, Rose};
 
 use mmt_io::{Halt, Port};
@@ -38,7 +37,7 @@ fn line(alloc: Global, tried: &Tried) -> Result<String, AllocError>
 pub fn tell<P: Port>(alloc: Global, port: &mut P, tried: &Tried) -> Result<(), Halt>
     ensures sends { OnlySends P.tells P.left P.read_faults P.write_faults port.old port.new }
     ensures cause { IsErrOf result Halt.WriteFault → Rose (P.write_faults port.old) (P.write_faults port.new) }
-    ensures put { IsTrue (P.tells port.old) → Put (P.history port.old) (P.history port.new) (only_written (line_of tried.now)) result }
+    ensures put { IsTrue (P.tells port.old) → PutsLine (P.history port.old) (P.history port.new) (line_of tried.now) result }
 {
     let line = match line(alloc, tried) {
         Ok(line) => line,

@@ -60,7 +60,8 @@ pub fn try_list<H: Shelf>(
     list: &str,
     shelf: &mut H,
 ) -> Result<Tried, MuxEnd>
-    ensures shelf { Stays (H.tells shelf.old) (H.tells shelf.new) (H.file shelf.old) (H.file shelf.new) (H.faults shelf.old) (H.faults shelf.new) }
+    ensures shelf { Stays (H.tells shelf.old) (H.tells shelf.new) (H.file shelf.old) (H.file shelf.new)
+        (H.faults shelf.old) (H.faults shelf.new) }
     ensures fault { IsErrOf result MuxEnd.ReadFault → Rose (H.faults shelf.old) (H.faults shelf.new) }
     ensures never { IsErrOf result MuxEnd.WriteFault → ⊥ }
     ensures answer { IsTrue (H.tells shelf.old) → IsTrialAnswer (H.file shelf.old) plan.now list.now result }

@@ -29,7 +29,7 @@ greatest test packets reaches zero = 0
 greatest test packets reaches (suc i) =
     if test (get_or packets i no_packet).carries then max (greatest test packets reaches i) (get_or reaches i 0) else greatest test packets reaches i
 
--- so it is at each of so many places, of the first packets
+-- so it is at each of N places, of the first packets
 pub record AreUpTo (test : ℕ → Carries → Bool) (packets : List Sent) (reaches : List ℕ) (i many : ℕ) (latest : List ℕ) : Type 0 where
   pub long : length latest ≡ many
   pub each : (u : ℕ) → u < many → get_or latest u 0 ≡ greatest (test u) packets reaches i

@@ -12,7 +12,7 @@ least_named copies signals m (suc i) =
     let copy = get_or copies i no_table_copy in
     if member m copy.names then min (least_named copies signals m i) (get_or signals copy.signal 0) else least_named copies signals m i
 
--- so it is of each of so many MPUs, of the first copies
+-- so it is of each of N MPUs, of the first copies
 pub record AreNamedBy (copies : List TableCopy) (signals : List ℕ) (i mpus : ℕ) (named : List ℕ) : Type 0 where
   pub long : length named ≡ mpus
   pub each : (m : ℕ) → m < mpus → get_or named m 0 ≡ least_named copies signals m i

@@ -43,7 +43,7 @@ fn take_copies(copies: &[TableCopy], signals: &[u64], named: &mut [u64])
     }
 }
 
-/// For each of so many MPUs the least reach of a table copy that names it, and `NEVER` where none does.
+/// For each of N MPUs the least reach of a table copy that names it, and `NEVER` where none does.
 pub fn named(
     alloc: Global,
     copies: &[TableCopy],

@@ -16,7 +16,7 @@ use mmt_plan::read_plan;
 use std::alloc::Global;
 use std::test::Fail;
 
-// The worked plan, in parts: what comes before its delay, its signalling behind the delay, and its assets.
+// The worked plan, in parts: what comes before its delay, its signalling after the delay, and its assets.
 const HEAD: &str = r#"{"flow":"ff0e0000000000000000000000000101:51300",
 "source":"20010db8000000000000000000000001:51300",
 "context":1,"full_every":3,"limit":1400,"spacing":10,"package":"p1",

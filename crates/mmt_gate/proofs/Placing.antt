@@ -102,7 +102,7 @@ pairs_new s q f m flows squeezers same_length at flows_is squeezers_is =
     ap (λ (x : List Flow). length x) grown
     ∙ (length-append s.flows (f ∷ []) ∙ (ap (λ (n : ℕ). n + 1) same_length ∙ (sym (length-append s.squeezers (m ∷ [])) ∙ sym (ap (λ (x : List Squeezer). length x) squeezers_is))))
 
--- a squeezer that so many packets came through is at that call
+-- a squeezer that N packets came through is at that call
 at_count : (o : Options) (hs : List Ip6Header) (context : ℕ) (h : Ip6Header) (q : Squeezer) → q ≡ squeezer_after o hs context h → IsAtCall (count_by (same h) hs) q
 at_count o hs context h q is = subst (λ (x : Squeezer). IsAtCall (count_by (same h) hs) x) (sym is) (record { number = refl; since = refl })
 

@@ -112,7 +112,7 @@ take_long zero (d ∷ ds) le = absurd (omega (arith, le))
 take_long (suc n) [] le = refl
 take_long (suc n) (d ∷ ds) le = ap (λ (x : List Ip6Header). d ∷ x) (take_long n ds (omega (arith, le)))
 
--- it gets the next one, of which so many are left
+-- it gets the next one, of which N are left
 pub known_new : (o : Options) (hs : List Ip6Header) (h : Ip6Header) → place (same h) (with_context o hs) ≡ None → length (with_context o hs) < 4096 - o.context
     → (with_context o (h ∷ hs) ≡ with_context o hs ++ h ∷ []) × (count_by (same h) hs ≡ 0)
 known_new o hs h none lt =

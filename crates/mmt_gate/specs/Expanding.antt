@@ -1,4 +1,5 @@
--- A stream of header-compressed packets as one of plain packets (ARIB STD-B32 Part 3, RFC 8200, RFC 768). Earlier packets stand with the newest first.
+-- A stream of header-compressed packets as one of plain packets (ARIB STD-B32 Part 3, RFC 8200, RFC 768). Earlier packets stand
+-- with the newest first.
 use Rattle.std.specs.Prelude.{◌≡◌, ℕ, true, ◌==◌, nat_le, List, ◌++◌, length, Result, Ok, Err, if◌then◌else◌}
 use Rattle.mmt_base.specs.declared.refused.Refused.{Refused}
 use Rattle.mmt_tlv.specs.Framing.{Packet, spelling}
@@ -14,7 +15,8 @@ use Rattle.mmt_gate.specs.Image.{image}
 abbrev pub longest : ℕ
 longest = 65487
 
--- a header-compressed packet with the header that it has, as a TLV packet of type 2: the same fields and payload, the lengths, and the checksum
+-- a header-compressed packet with the header that it has, as a TLV packet of type 2: the same fields and payload, the lengths, and
+-- the checksum
 abbrev pub plain_packet : Opened → Packet
 plain_packet v = record { kind = 2; body = plain_spelling (record { header = v.header; summed = true; payload = v.payload }) }
 
@@ -32,7 +34,7 @@ abbrev pub expansion : List Packet → List Packet
 expansion packets = image expanded packets
 
 -- An answer for a packet that is to become this: the packet was appended, or it is left out for this reason and nothing was
--- appended. Want of memory, which appends nothing, is free.
+-- appended. `OutOfMemory`, which appends nothing, is free.
 abbrev pub Expands : {T : Type 0} → Result T ExpandEnd → List ℕ → List ℕ → Result Packet ExpandEnd → Type 0
 Expands (Ok done) old new wanted = (packet : Packet) × (wanted ≡ Ok packet) × (new ≡ old ++ spelling packet)
 Expands (Err end.OutOfMemory) old new wanted = new ≡ old

@@ -17,7 +17,8 @@ pub record Options : Type 0 where
 -- all fields of both headers agree
 unfoldable pub same : Ip6Header → Ip6Header → Bool
 same h g = (h.traffic_class == g.traffic_class) && ((h.flow_label == g.flow_label) && ((h.hop_limit == g.hop_limit)
-    && ((h.source == g.source) && ((h.destination == g.destination) && ((h.source_port == g.source_port) && (h.destination_port == g.destination_port))))))
+    && ((h.source == g.source) && ((h.destination == g.destination)
+    && ((h.source_port == g.source_port) && (h.destination_port == g.destination_port))))))
 
 abbrev pub header_read : Result Plain (Refused IpWhy) → Option Ip6Header
 header_read (Ok v) = Some v.header

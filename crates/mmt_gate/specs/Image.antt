@@ -11,7 +11,8 @@ given (Err reason) = None
 -- what the packets of a stream become after earlier ones, in order, without those that are left out
 unfoldable pub image_after : {E : Type 0} → (List Packet → Packet → Result Packet E) → List Packet → List Packet → List Packet
 image_after becomes earlier [] = []
-image_after becomes earlier (packet ∷ packets) = cons_option (given (becomes earlier packet)) (image_after becomes (packet ∷ earlier) packets)
+image_after becomes earlier (packet ∷ packets) =
+    cons_option (given (becomes earlier packet)) (image_after becomes (packet ∷ earlier) packets)
 
 -- what the packets of a stream become, in order
 abbrev pub image : {E : Type 0} → (List Packet → Packet → Result Packet E) → List Packet → List Packet

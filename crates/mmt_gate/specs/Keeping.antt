@@ -7,7 +7,15 @@ use Rattle.mmt_gate.specs.declared.flow.Flow.{Flow}
 
 -- a header as what it is looked up by
 abbrev pub flow_of : Ip6Header → Flow
-flow_of h = record { traffic_class = h.traffic_class; flow_label = h.flow_label; hop_limit = h.hop_limit; source = h.source; destination = h.destination; source_port = h.source_port; destination_port = h.destination_port }
+flow_of h = record {
+  traffic_class = h.traffic_class;
+  flow_label = h.flow_label;
+  hop_limit = h.hop_limit;
+  source = h.source;
+  destination = h.destination;
+  source_port = h.source_port;
+  destination_port = h.destination_port;
+}
 
 -- a shrinker: its options, the headers that have a context, and their squeezers
 pub record Shrinking : Type 0 where
@@ -15,9 +23,15 @@ pub record Shrinking : Type 0 where
   pub flows : List Flow
   pub squeezers : List Squeezer
 
--- the squeezer of a header in a context, where so many packets of it are among the headers
+-- the squeezer of a header in a context, where N packets of it are among the headers
 abbrev pub squeezer_after : Options → List Ip6Header → ℕ → Ip6Header → Squeezer
-squeezer_after s hs context h = record { context = context; full_every = s.full_every; header = h; number = count_by (same h) hs % 16; since = count_by (same h) hs % s.full_every }
+squeezer_after s hs context h = record {
+  context = context;
+  full_every = s.full_every;
+  header = h;
+  number = count_by (same h) hs % 16;
+  since = count_by (same h) hs % s.full_every;
+}
 
 -- the squeezers of headers from a context on
 abbrev pub squeezers_after : Options → List Ip6Header → ℕ → List Ip6Header → List Squeezer

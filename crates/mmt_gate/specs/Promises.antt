@@ -17,7 +17,8 @@ is_short d = nat_le (length d.payload) longest
 
 -- The datagrams of an expanded stream are those of the stream that fit a plain packet, in order.
 abbrev pub ExpandingKeepsDatagrams : Type 0
-ExpandingKeepsDatagrams = (packets : List Packet) → All IsWhole packets → datagrams (expansion packets) ≡ filter is_short (datagrams packets)
+ExpandingKeepsDatagrams = (packets : List Packet) → All IsWhole packets
+    → datagrams (expansion packets) ≡ filter is_short (datagrams packets)
 
 -- an IPv6 packet (ARIB STD-B32 Part 3: packet type 2)
 abbrev pub is_plain : Packet → Bool
@@ -25,4 +26,5 @@ is_plain packet = packet.kind == 2
 
 -- The datagrams of a squeezed stream are those of the stream's packets of type 2, in order, whatever the options are.
 abbrev pub SqueezingKeepsDatagrams : Type 0
-SqueezingKeepsDatagrams = (s : Options) (packets : List Packet) → All IsWhole packets → datagrams (squeezing s packets) ≡ datagrams (filter is_plain packets)
+SqueezingKeepsDatagrams = (s : Options) (packets : List Packet) → All IsWhole packets
+    → datagrams (squeezing s packets) ≡ datagrams (filter is_plain packets)

@@ -1,4 +1,5 @@
--- A stream of plain packets as one of header-compressed packets (ARIB STD-B32 Part 3, RFC 8200, RFC 768). Earlier packets stand with the newest first.
+-- A stream of plain packets as one of header-compressed packets (ARIB STD-B32 Part 3, RFC 8200, RFC 768). Earlier packets stand
+-- with the newest first.
 use Rattle.std.specs.Prelude.{◌≡◌, ℕ, ◌+◌, ◌==◌, List, ◌∷◌, ◌++◌, Option, Some, None, Result, Ok, Err, if◌then◌else◌, count_by}
 use Rattle.mmt_base.specs.declared.refused.Refused.{Refused}
 use Rattle.mmt_tlv.specs.Framing.{Packet, spelling}
@@ -28,7 +29,8 @@ squeezed_at s call packet v None = packet
 
 -- a packet of type 2 after the headers of the earlier ones; where it spells no IPv6 and UDP packet it stays as it is
 abbrev pub squeezed_plain : Options → List Ip6Header → Packet → Result Plain (Refused IpWhy) → Packet
-squeezed_plain s hs packet (Ok v) = squeezed_at s (count_by (same v.header) hs) packet v (place_among v.header (with_context s (v.header ∷ hs)))
+squeezed_plain s hs packet (Ok v) =
+    squeezed_at s (count_by (same v.header) hs) packet v (place_among v.header (with_context s (v.header ∷ hs)))
 squeezed_plain s hs packet (Err e) = packet
 
 -- what a packet becomes after the earlier ones: packets of type 3 are left out, and those of other types than 2 and 3 stay as they are
@@ -42,8 +44,8 @@ squeezed s earlier packet =
 abbrev pub squeezing : Options → List Packet → List Packet
 squeezing s packets = image (squeezed s) packets
 
--- An answer for a packet that is to become this: the packet was appended, or it is left out and nothing was appended. Want of
--- memory, which appends nothing, is free.
+-- An answer for a packet that is to become this: the packet was appended, or it is left out and nothing was appended. `OutOfMemory`,
+-- which appends nothing, is free.
 abbrev pub Squeezes : {T : Type 0} → Result T ShrinkEnd → List ℕ → List ℕ → Result Packet ShrinkEnd → Type 0
 Squeezes (Ok done) old new wanted = (packet : Packet) × (wanted ≡ Ok packet) × (new ≡ old ++ spelling packet)
 Squeezes (Err end.Squeezed) old new wanted = (wanted ≡ Err end.Squeezed) × (new ≡ old)

@@ -52,7 +52,8 @@ const LONGEST: usize = 65_487;
 fn put_opened(out: &mut Vec<u8>, header: Ip6Header, payload: &[u8]) -> Result<(), ExpandEnd>
     requires label { header.flow_label < 2 ^ 20 }
     requires short { length payload.now < 2 ^ 16 }
-    ensures expands { (v : Opened) → v.header ≡ header → v.payload ≡ payload.now → Expands result out.old.items out.new.items (expanded_opened (Ok v)) }
+    ensures expands { (v : Opened) → v.header ≡ header → v.payload ≡ payload.now →
+        Expands result out.old.items out.new.items (expanded_opened (Ok v)) }
     ensures refused { OnErr result (out.new.items ≡ out.old.items) }
 {
     if payload.len() > LONGEST {
@@ -81,8 +82,11 @@ impl Expander {
     // Appends what the packet with this body becomes.
     fn compressed(&mut self, out: &mut Vec<u8>, body: &[u8]) -> Result<(), ExpandEnd>
         requires { length body.now < 2 ^ 16 }
-        ensures expands { (earlier : List (List ℕ)) → HasRead earlier self.old → Expands result out.old.items out.new.items (expanded_opened (opened_after earlier body.now)) }
-        ensures next { (earlier : List (List ℕ)) → HasRead earlier self.old → HasRead (body.now ∷ earlier) self.new }
+        ensures expands { (earlier : List (List ℕ)) → HasRead earlier self.old →
+            Expands result out.old.items out.new.items
+            (expanded_opened (opened_after earlier body.now)) }
+        ensures next { (earlier : List (List ℕ)) → HasRead earlier self.old →
+            HasRead (body.now ∷ earlier) self.new }
         ensures refused { OnErr result (out.new.items ≡ out.old.items) }
     {
         let packet = match self.contexts.read(body) {
@@ -104,9 +108,11 @@ impl Expander {
     pub fn next(&mut self, out: &mut Vec<u8>, tlv: &[u8]) -> Result<(), ExpandEnd>
         requires { IsPacket tlv.now }
         // For every list of earlier packets, the newest of them first.
-        ensures expands { (earlier : List Packet) (packet : Packet) → Fits packet → tlv.now ≡ spelling packet → HasHeard earlier self.old →
+        ensures expands { (earlier : List Packet) (packet : Packet) → Fits packet →
+            tlv.now ≡ spelling packet → HasHeard earlier self.old →
             Expands result out.old.items out.new.items (expanded earlier packet) }
-        ensures next { (earlier : List Packet) (packet : Packet) → Fits packet → tlv.now ≡ spelling packet → HasHeard earlier self.old →
+        ensures next { (earlier : List Packet) (packet : Packet) → Fits packet →
+            tlv.now ≡ spelling packet → HasHeard earlier self.old →
             HasHeard (packet ∷ earlier) self.new }
         ensures refused { OnErr result (out.new.items ≡ out.old.items) }
     {

@@ -44,9 +44,17 @@ impl Model for Shrinker {
 
     ghost Value = { Shrinking };
 
-    ghost view = { λ s. record { options = record { context = s.context; full_every = s.full_every }; flows = s.flows.keys; squeezers = s.squeezers.items } };
+    ghost view = { λ s. record {
+      options = record { context = s.context; full_every = s.full_every };
+      flows = s.flows.keys;
+      squeezers = s.squeezers.items;
+    } };
 
-    ghost invariant = { λ s. IsSound (record { options = record { context = s.context; full_every = s.full_every }; flows = s.flows.keys; squeezers = s.squeezers.items }) };
+    ghost invariant = { λ s. IsSound (record {
+      options = record { context = s.context; full_every = s.full_every };
+      flows = s.flows.keys;
+      squeezers = s.squeezers.items;
+    }) };
 }
 
 // How many contexts there are (ARIB STD-B32 Part 3: a context id has twelve bits).
@@ -59,7 +67,8 @@ impl Shrinker {
     pub fn new(alloc: Global, context: u16, full_every: u32) -> Result<Shrinker, OutOfMemory>
         requires context { context < 4096 }
         requires every { 1 ≤ full_every }
-        ensures options { IfOk result (λ s. s.options ≡ record { context = context; full_every = full_every }) }
+        ensures options { IfOk result (λ s. s.options ≡
+            record { context = context; full_every = full_every }) }
         ensures none { IfOk result (λ s. HasSqueezed [] s) }
     {
         Ok(Shrinker {
@@ -75,7 +84,9 @@ impl Shrinker {
     fn place(&mut self, header: Ip6Header) -> Result<Option<usize>, OutOfMemory>
         requires label { header.flow_label < 2 ^ 20 }
         ensures options { self.new.options ≡ self.old.options }
-        ensures found { (hs : List Header) → HasSqueezed hs self.old → IfOk result (λ place. Knows (with_context self.old.options (header ∷ hs)) hs self.new × (place ≡ place_among header (with_context self.old.options (header ∷ hs)))) }
+        ensures found { (hs : List Header) → HasSqueezed hs self.old →
+            IfOk result (λ place. Knows (with_context self.old.options (header ∷ hs)) hs self.new ×
+            (place ≡ place_among header (with_context self.old.options (header ∷ hs)))) }
         ensures within { IfOk result (λ place. IfSome place (λ i. i < length self.new.squeezers)) }
     {
         let flow = flow_of(&header);
@@ -106,11 +117,16 @@ impl Shrinker {
         requires within { place < length self.old.squeezers }
         requires len { length payload.now ≤ 65487 }
         ensures options { self.new.options ≡ self.old.options }
-        ensures packet { OnOk result ((hs : List Header) (header : Header) → Knows (with_context self.old.options (header ∷ hs)) hs self.old →
+        ensures packet { OnOk result ((hs : List Header) (header : Header) →
+            Knows (with_context self.old.options (header ∷ hs)) hs self.old →
             Some place ≡ place_among header (with_context self.old.options (header ∷ hs)) →
-            out.new.items ≡ out.old.items ++ spelling (squeezed_as self.old.options (count_by (same header) hs) place header payload.now)) }
-        ensures next { OnOk result ((hs : List Header) (header : Header) → Knows (with_context self.old.options (header ∷ hs)) hs self.old →
-            Some place ≡ place_among header (with_context self.old.options (header ∷ hs)) → HasSqueezed (header ∷ hs) self.new) }
+            out.new.items ≡ out.old.items ++
+            spelling (squeezed_as self.old.options (count_by (same header) hs) place header
+            payload.now)) }
+        ensures next { OnOk result ((hs : List Header) (header : Header) →
+            Knows (with_context self.old.options (header ∷ hs)) hs self.old →
+            Some place ≡ place_among header (with_context self.old.options (header ∷ hs)) →
+            HasSqueezed (header ∷ hs) self.new) }
         ensures refused { OnErr result (out.new.items ≡ out.old.items) }
     {
         let _ = &self.flows;
@@ -122,9 +138,12 @@ impl Shrinker {
     fn plain(&mut self, out: &mut Vec<u8>, tlv: &[u8], body: &[u8]) -> Result<(), OutOfMemory>
         requires { length body.now < 2 ^ 16 }
         ensures options { self.new.options ≡ self.old.options }
-        ensures packet { OnOk result ((hs : List Header) (packet : Packet) → HasSqueezed hs self.old → tlv.now ≡ spelling packet →
-            out.new.items ≡ out.old.items ++ spelling (squeezed_plain self.old.options hs packet (plain_of body.now))) }
-        ensures next { OnOk result ((hs : List Header) → HasSqueezed hs self.old → HasSqueezed (cons_option (header_read (plain_of body.now)) hs) self.new) }
+        ensures packet { OnOk result ((hs : List Header) (packet : Packet) →
+            HasSqueezed hs self.old → tlv.now ≡ spelling packet →
+            out.new.items ≡ out.old.items ++
+            spelling (squeezed_plain self.old.options hs packet (plain_of body.now))) }
+        ensures next { OnOk result ((hs : List Header) → HasSqueezed hs self.old →
+            HasSqueezed (cons_option (header_read (plain_of body.now)) hs) self.new) }
         ensures refused { OnErr result (out.new.items ≡ out.old.items) }
     {
         let packet = match read_ip6udp(body) {
@@ -148,15 +167,17 @@ impl Shrinker {
     ///
     /// # Errors
     ///
-    /// A packet of type 3; no memory for the packet. `out` is unchanged then. After want of memory
-    /// the shrinker is used no more.
+    /// A packet of type 3; no memory for the packet. `out` is unchanged then. After
+    /// `OutOfMemory` the shrinker is used no more.
     pub fn next(&mut self, out: &mut Vec<u8>, tlv: &[u8]) -> Result<(), ShrinkEnd>
         requires { IsPacket tlv.now }
         ensures options { self.new.options ≡ self.old.options }
         // For every list of earlier packets, the newest of them first.
-        ensures squeezes { (earlier : List Packet) (packet : Packet) → Fits packet → tlv.now ≡ spelling packet → HasSqueezed (headers earlier) self.old →
+        ensures squeezes { (earlier : List Packet) (packet : Packet) → Fits packet →
+            tlv.now ≡ spelling packet → HasSqueezed (headers earlier) self.old →
             Squeezes result out.old.items out.new.items (squeezed self.old.options earlier packet) }
-        ensures next { (earlier : List Packet) (packet : Packet) → Fits packet → tlv.now ≡ spelling packet → HasSqueezed (headers earlier) self.old →
+        ensures next { (earlier : List Packet) (packet : Packet) → Fits packet →
+            tlv.now ≡ spelling packet → HasSqueezed (headers earlier) self.old →
             IsGoing result (HasSqueezed (headers (packet ∷ earlier)) self.new) }
         ensures refused { OnErr result (out.new.items ≡ out.old.items) }
     {

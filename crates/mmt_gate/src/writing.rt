@@ -23,7 +23,8 @@ pub fn put_as_it_is(out: &mut Vec<u8>, tlv: &[u8]) -> Result<(), OutOfMemory>
 // 3, the TLV packet).
 fn put_header(out: &mut Vec<u8>, kind: u8, length: usize) -> Result<(), OutOfMemory>
     requires { length < 65536 }
-    ensures ok { OnOk result (out.new.items ≡ out.old.items ++ (127 ∷ kind ∷ (length / 256) ∷ (length % 256) ∷ [])) }
+    ensures ok { OnOk result (out.new.items ≡ out.old.items ++
+        (127 ∷ kind ∷ (length / 256) ∷ (length % 256) ∷ [])) }
     ensures err { OnErr result (out.new.items ≡ out.old.items) }
 {
     let header = [0x7F, kind, (length / 256) as u8, (length % 256) as u8];
@@ -36,7 +37,14 @@ fn put_header(out: &mut Vec<u8>, kind: u8, length: usize) -> Result<(), OutOfMem
 pub fn put_plain(out: &mut Vec<u8>, header: Ip6Header, payload: &[u8]) -> Result<(), OutOfMemory>
     requires label { header.flow_label < 2 ^ 20 }
     requires len { length payload.now ≤ 65487 }
-    ensures ok { OnOk result (out.new.items ≡ out.old.items ++ spelling (record { kind = 2; body = plain_spelling (record { header = header; summed = true; payload = payload.now }) })) }
+    ensures ok { OnOk result (out.new.items ≡ out.old.items ++ spelling (record {
+      kind = 2;
+      body = plain_spelling (record {
+        header = header;
+        summed = true;
+        payload = payload.now;
+      });
+    })) }
     ensures err { OnErr result (out.new.items ≡ out.old.items) }
 {
     let len = out.len();
@@ -57,8 +65,11 @@ pub fn put_plain(out: &mut Vec<u8>, header: Ip6Header, payload: &[u8]) -> Result
 
 // Writes the length of the body of the TLV packet that begins at a place and is the last one.
 fn put_length(out: &mut Vec<u8>, place: usize)
-    requires { (old body : List ℕ) × (length old ≡ place) × (length body < 65536) × (out.old.items ≡ old ++ (127 ∷ 3 ∷ 0 ∷ 0 ∷ body)) }
-    ensures { (old body : List ℕ) → length old ≡ place → out.old.items ≡ old ++ (127 ∷ 3 ∷ 0 ∷ 0 ∷ body) → out.new.items ≡ old ++ spelling (record { kind = 3; body = body }) }
+    requires { (old body : List ℕ) × (length old ≡ place) × (length body < 65536) ×
+        (out.old.items ≡ old ++ (127 ∷ 3 ∷ 0 ∷ 0 ∷ body)) }
+    ensures { (old body : List ℕ) → length old ≡ place →
+        out.old.items ≡ old ++ (127 ∷ 3 ∷ 0 ∷ 0 ∷ body) →
+        out.new.items ≡ old ++ spelling (record { kind = 3; body = body }) }
 {
     let length = out.len() - place - 4;
     out[place + 2] = (length / 256) as u8;
@@ -74,10 +85,18 @@ pub fn put_squeezed(
 ) -> Result<(), OutOfMemory>
     requires at_call { (call : ℕ) × IsAtCall call squeezer.old }
     requires len { length payload.now ≤ 65487 }
-    ensures packet { OnOk result ((call : ℕ) → IsAtCall call squeezer.old → out.new.items ≡ out.old.items ++ spelling (record { kind = 3; body = compressed_spelling (packet_at call squeezer.old payload.now) })) }
-    ensures call { OnOk result ((call : ℕ) → IsAtCall call squeezer.old → IsAtCall (call + 1) squeezer.new) }
-    ensures same { OnOk result ((squeezer.new.context ≡ squeezer.old.context) × (squeezer.new.full_every ≡ squeezer.old.full_every) × (squeezer.new.header ≡ squeezer.old.header)) }
-    ensures refused { OnErr result ((squeezer.new ≡ squeezer.old) × (out.new.items ≡ out.old.items)) }
+    ensures packet { OnOk result ((call : ℕ) → IsAtCall call squeezer.old →
+        out.new.items ≡ out.old.items ++ spelling (record {
+          kind = 3;
+          body = compressed_spelling (packet_at call squeezer.old payload.now);
+        })) }
+    ensures call { OnOk result ((call : ℕ) → IsAtCall call squeezer.old →
+        IsAtCall (call + 1) squeezer.new) }
+    ensures same { OnOk result ((squeezer.new.context ≡ squeezer.old.context) ×
+        (squeezer.new.full_every ≡ squeezer.old.full_every) ×
+        (squeezer.new.header ≡ squeezer.old.header)) }
+    ensures refused { OnErr result ((squeezer.new ≡ squeezer.old) ×
+        (out.new.items ≡ out.old.items)) }
 {
     let place = out.len();
     put_header(out, 3, 0)?;

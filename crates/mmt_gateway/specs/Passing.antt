@@ -16,7 +16,8 @@ note_of note place (Ok packet) = []
 note_of note place (Err reason) = note place reason
 
 -- the notes of the packets of a stream that are left out, from a place on and after earlier packets
-unfoldable pub notes_after : {E : Type 0} → (List Packet → Packet → Result Packet E) → (ℕ → E → List ℕ) → ℕ → List Packet → List Packet → List ℕ
+unfoldable pub notes_after : {E : Type 0} → (List Packet → Packet → Result Packet E) → (ℕ → E → List ℕ)
+    → ℕ → List Packet → List Packet → List ℕ
 notes_after becomes note place earlier [] = []
 notes_after becomes note place earlier (packet ∷ packets) =
     note_of note place (becomes earlier packet) ++ notes_after becomes note (place + length (spelling packet)) (packet ∷ earlier) packets

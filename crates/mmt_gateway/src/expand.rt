@@ -44,9 +44,12 @@ impl ExpandCommand {
     fn next(&mut self, place: u64, tlv: &[u8]) -> Result<(), OutOfMemory>
         requires whole { IsPacket tlv.now }
         requires bound { place < 2 ^ 63 }
-        ensures gathers { OnOk result ((earlier : List Packet) (packet : Packet) → Fits packet → tlv.now ≡ spelling packet → HasHeard earlier self.old.expander →
-            of_gathered self.new.gathered ≡ followed (of_gathered self.old.gathered) (passed_one expanded expand_note place earlier packet)) }
-        ensures next { OnOk result ((earlier : List Packet) (packet : Packet) → Fits packet → tlv.now ≡ spelling packet → HasHeard earlier self.old.expander →
+        ensures gathers { OnOk result ((earlier : List Packet) (packet : Packet) → Fits packet →
+            tlv.now ≡ spelling packet → HasHeard earlier self.old.expander →
+            of_gathered self.new.gathered ≡ followed (of_gathered self.old.gathered)
+            (passed_one expanded expand_note place earlier packet)) }
+        ensures next { OnOk result ((earlier : List Packet) (packet : Packet) → Fits packet →
+            tlv.now ≡ spelling packet → HasHeard earlier self.old.expander →
             HasHeard (packet ∷ earlier) self.new.expander) }
     {
         match self.expander.next(&mut self.gathered.out, tlv) {

@@ -29,10 +29,12 @@ impl Gathered {
 
     // Writes the bytes by one call of the port, if there are any, and otherwise by none.
     fn write<P: Port>(&self, port: &mut P) -> Result<(), Halt>
+        ensures memory { IsErrOf result Halt.OutOfMemory → ⊥ }
         ensures sends { OnlySends P.tells P.left P.read_faults P.write_faults port.old port.new }
         ensures cause { IsErrOf result Halt.WriteFault →
             Rose (P.write_faults port.old) (P.write_faults port.new) }
-        ensures put { IsTrue (P.tells port.old) → Put (P.history port.old) (P.history port.new) (only_written self.now.out.items) result }
+        ensures put { IsTrue (P.tells port.old) → Put (P.history port.old) (P.history port.new)
+            (only_written self.now.out.items) result }
     {
         if self.out.is_empty() {
             return Ok(());
@@ -45,10 +47,12 @@ impl Gathered {
 
     // Notes the bytes by one call of the port, if there are any, and otherwise by none.
     fn note<P: Port>(&self, port: &mut P) -> Result<(), Halt>
+        ensures memory { IsErrOf result Halt.OutOfMemory → ⊥ }
         ensures sends { OnlySends P.tells P.left P.read_faults P.write_faults port.old port.new }
         ensures cause { IsErrOf result Halt.WriteFault →
             Rose (P.write_faults port.old) (P.write_faults port.new) }
-        ensures put { IsTrue (P.tells port.old) → Put (P.history port.old) (P.history port.new) (only_noted self.now.notes.items) result }
+        ensures put { IsTrue (P.tells port.old) → Put (P.history port.old) (P.history port.new)
+            (only_noted self.now.notes.items) result }
     {
         if self.notes.is_empty() {
             return Ok(());
@@ -59,16 +63,18 @@ impl Gathered {
         }
     }
 
-    /// Puts all of it out, by one write and one note at most.
+    /// Puts all of it out, by one write and one note at most. It takes no memory.
     ///
     /// # Errors
     ///
     /// The port failed, and prefixes of both went out.
     pub fn send<P: Port>(&self, port: &mut P) -> Result<(), Halt>
+        ensures memory { IsErrOf result Halt.OutOfMemory → ⊥ }
         ensures sends { OnlySends P.tells P.left P.read_faults P.write_faults port.old port.new }
         ensures cause { IsErrOf result Halt.WriteFault →
             Rose (P.write_faults port.old) (P.write_faults port.new) }
-        ensures put { IsTrue (P.tells port.old) → Put (P.history port.old) (P.history port.new) (of_gathered self.now) result }
+        ensures put { IsTrue (P.tells port.old) → Put (P.history port.old) (P.history port.new)
+            (of_gathered self.now) result }
     {
         match self.write(port) {
             Ok(()) => {}

@@ -19,7 +19,8 @@ const NOTE: usize = 80;
 // Appends the note of a header-compressed packet that is refused, at a place.
 #[tactic(auto, using(std::proofs::Common::append_assoc), unfolding(crate::specs::Noting::line))]
 fn put_refused(out: &mut Vec<u8>, at: u64, why: CtxWhy) -> Result<(), OutOfMemory>
-    ensures ok { OnOk result (out.new.items ≡ out.old.items ++ line at (why_words (reason_of why))) }
+    ensures ok { OnOk result (out.new.items ≡ out.old.items ++
+        line at (why_words (reason_of why))) }
     ensures err { OnErr result (out.new.items ≡ out.old.items) }
 {
     out.reserve(NOTE)?;
@@ -34,7 +35,8 @@ fn put_refused(out: &mut Vec<u8>, at: u64, why: CtxWhy) -> Result<(), OutOfMemor
 // Appends the note of a payload that is too long, at a place.
 #[tactic(auto, using(std::proofs::Common::append_assoc), unfolding(crate::specs::Noting::line))]
 fn put_long(out: &mut Vec<u8>, at: u64, length: u32) -> Result<(), OutOfMemory>
-    ensures ok { OnOk result (out.new.items ≡ out.old.items ++ line at (codes "gate-long " ++ decimal length)) }
+    ensures ok { OnOk result (out.new.items ≡ out.old.items ++
+        line at (codes "gate-long " ++ decimal length)) }
     ensures err { OnErr result (out.new.items ≡ out.old.items) }
 {
     out.reserve(NOTE)?;
@@ -62,7 +64,7 @@ fn put_squeezed(out: &mut Vec<u8>, at: u64) -> Result<(), OutOfMemory>
 }
 
 /// Appends the note of a packet at a place, in bytes from the start of the stream, that is not
-/// expanded, and nothing for want of memory.
+/// expanded, and nothing where the packet ran out of memory.
 ///
 /// # Errors
 ///
@@ -81,7 +83,7 @@ pub fn put_expand_note(out: &mut Vec<u8>, place: u64, reason: ExpandEnd) -> Resu
 }
 
 /// Appends the note of a packet at a place, in bytes from the start of the stream, that is not
-/// squeezed, and nothing for want of memory.
+/// squeezed, and nothing where the packet ran out of memory.
 ///
 /// # Errors
 ///

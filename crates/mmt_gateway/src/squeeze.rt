@@ -34,7 +34,8 @@ impl SqueezeCommand {
     pub fn new(alloc: Global, context: u16, full_every: u32) -> Result<SqueezeCommand, OutOfMemory>
         requires context { context < 4096 }
         requires every { 1 ≤ full_every }
-        ensures options { IfOk result (λ c. c.shrinker.options ≡ record { context = context; full_every = full_every }) }
+        ensures options { IfOk result (λ c. c.shrinker.options ≡
+            record { context = context; full_every = full_every }) }
         ensures none { IfOk result (λ c. of_gathered c.gathered ≡ nothing) }
         ensures squeezed { IfOk result (λ c. HasSqueezed [] c.shrinker) }
     {
@@ -50,9 +51,12 @@ impl SqueezeCommand {
         requires whole { IsPacket tlv.now }
         requires bound { place < 2 ^ 63 }
         ensures options { self.new.shrinker.options ≡ self.old.shrinker.options }
-        ensures gathers { OnOk result ((earlier : List Packet) (packet : Packet) → Fits packet → tlv.now ≡ spelling packet → HasSqueezed (headers earlier) self.old.shrinker →
-            of_gathered self.new.gathered ≡ followed (of_gathered self.old.gathered) (passed_one (squeezed self.old.shrinker.options) squeeze_note place earlier packet)) }
-        ensures next { OnOk result ((earlier : List Packet) (packet : Packet) → Fits packet → tlv.now ≡ spelling packet → HasSqueezed (headers earlier) self.old.shrinker →
+        ensures gathers { OnOk result ((earlier : List Packet) (packet : Packet) → Fits packet →
+            tlv.now ≡ spelling packet → HasSqueezed (headers earlier) self.old.shrinker →
+            of_gathered self.new.gathered ≡ followed (of_gathered self.old.gathered)
+            (passed_one (squeezed self.old.shrinker.options) squeeze_note place earlier packet)) }
+        ensures next { OnOk result ((earlier : List Packet) (packet : Packet) → Fits packet →
+            tlv.now ≡ spelling packet → HasSqueezed (headers earlier) self.old.shrinker →
             HasSqueezed (headers (packet ∷ earlier)) self.new.shrinker) }
     {
         match self.shrinker.next(&mut self.gathered.out, tlv) {

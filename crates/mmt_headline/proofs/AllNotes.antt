@@ -1,11 +1,11 @@
 -- The notes of a near delivery are those of `late`, `repeat` and `ctx-none` alone.
 use Rattle.std.proofs.Common.{◌≡◌, ℕ, Bool, true, false, ◌||◌, ◌==◌, ◌%◌, cond, max, List, [], ◌∷◌, ◌++◌, get_or, refl, sym, ap, subst, ◌∙◌}
 use Rattle.std.proofs.lemmas.Grind.{flat_map-append}
-use Rattle.mmt_cast.specs.Casting.{cast_of}
 use Rattle.mmt_model.specs.Admission.{has_parameters}
 use Rattle.mmt_model.specs.Delivery.{NearAfter, NearDelivery, from_first, from_heard, newest_first, onto}
 use Rattle.mmt_model.specs.Survival.{AreOf, no_packet, sent_at}
 use Rattle.mmt_model.specs.declared.casts.Sent.{Sent}
+use Rattle.mmt_model.specs.declared.casts.Cast.{Cast}
 use Rattle.mmt_model.specs.declared.programmes.Programme.{Programme}
 use Rattle.mmt_output.specs.Notes.{note_text}
 use Rattle.mmt_recv.specs.Noting.{PlacedNote, lines_of, noted, notes_of_packet}
@@ -21,7 +21,7 @@ use Rattle.mmt_model.specs.Received.{tuned_places, tunes_at}
 use Rattle.mmt_headline.proofs.Notes.{IsNext, is-next}
 use Rattle.mmt_headline.proofs.Peaks.{turned-one}
 
--- ---- a start of a near delivery is near
+-- ---- a prefix of a near delivery is near
 
 first-more : (test : ℕ → Bool) (xs ys : List ℕ) → (zs : List ℕ) × (from_first test (xs ++ ys) ≡ from_first test xs ++ zs)
 unfolding from_first
@@ -41,10 +41,10 @@ heard-more full_every (x ∷ xs) ys = go ((full_every == 0) || (x % full_every =
     go true later = (ys, refl)
     go false later = later
 
-tuned-more : (programme : Programme) (xs ys : List ℕ) → (zs : List ℕ) × (tuned_places (cast_of programme) programme.full_every (xs ++ ys) ≡ tuned_places (cast_of programme) programme.full_every xs ++ zs)
+tuned-more : (programme : Programme) (cast : Cast) (xs ys : List ℕ) → (zs : List ℕ) × (tuned_places cast programme.full_every (xs ++ ys) ≡ tuned_places cast programme.full_every xs ++ zs)
 unfolding tuned_places tunes_at
-tuned-more programme xs ys =
-    let test : ℕ → Bool = λ n. has_parameters (get_or (cast_of programme).packets n no_packet).carries in
+tuned-more programme cast xs ys =
+    let test : ℕ → Bool = λ n. has_parameters (get_or cast.packets n no_packet).carries in
     let heard = heard-more programme.full_every xs ys in
     let first = first-more test (from_heard programme.full_every xs) heard.0 in
     (first.0, ap (from_first test) heard.1 ∙ first.1)
@@ -57,10 +57,10 @@ near-start : (packets : List Sent) (ds zs : List ℕ) → NearDelivery packets (
 near-start packets [] zs near = tt
 near-start packets (d ∷ ds) zs near = near-after packets (sent_at packets d) ds zs near
 
-near-older : (programme : Programme) (xs ys : List ℕ) → NearDelivery (cast_of programme).packets (tuned_places (cast_of programme) programme.full_every (xs ++ ys)) → NearDelivery (cast_of programme).packets (tuned_places (cast_of programme) programme.full_every xs)
-near-older programme xs ys near =
-    let more = tuned-more programme xs ys in
-    near-start (cast_of programme).packets (tuned_places (cast_of programme) programme.full_every xs) more.0 (subst (NearDelivery (cast_of programme).packets) more.1 near)
+near-older : (programme : Programme) (cast : Cast) (xs ys : List ℕ) → NearDelivery cast.packets (tuned_places cast programme.full_every (xs ++ ys)) → NearDelivery cast.packets (tuned_places cast programme.full_every xs)
+near-older programme cast xs ys near =
+    let more = tuned-more programme cast xs ys in
+    near-start cast.packets (tuned_places cast programme.full_every xs) more.0 (subst (NearDelivery cast.packets) more.1 near)
 
 of-start : (packets : List Sent) (ds zs : List ℕ) → AreOf packets (ds ++ zs) → AreOf packets ds
 of-start packets [] zs of = tt
@@ -88,34 +88,34 @@ none-yet : (config : Config) → Quiet config []
 unfolding noted
 none-yet config = ([], tt, refl)
 
-nothing-sent : (programme : Programme) (files : ℕ → List ℕ) → newest_first (stream_of programme files (newest_first [])) ≡ []
+nothing-sent : (programme : Programme) (cast : Cast) (files : ℕ → List ℕ) → newest_first (stream_of programme cast files (newest_first [])) ≡ []
 unfolding stream_of packet_sent newest_first onto
-nothing-sent programme files = refl
+nothing-sent programme cast files = refl
 
-history-quiet : NotesAreQuiet → (config : Config) (programme : Programme) (files : ℕ → List ℕ) (hist : List ℕ) (ps : List Placed) → IsSendable programme files → Receives config programme
-    → AreOf (cast_of programme).packets (newest_first hist) → NearDelivery (cast_of programme).packets (tuned_places (cast_of programme) programme.full_every (newest_first hist))
-    → tlv_of ps ≡ newest_first (stream_of programme files (newest_first hist)) → Quiet config ps
+history-quiet : NotesAreQuiet → (config : Config) (programme : Programme) (cast : Cast) (files : ℕ → List ℕ) (hist : List ℕ) (ps : List Placed) → IsSendable programme cast files → Receives config programme
+    → AreOf cast.packets (newest_first hist) → NearDelivery cast.packets (tuned_places cast programme.full_every (newest_first hist))
+    → tlv_of ps ≡ newest_first (stream_of programme cast files (newest_first hist)) → Quiet config ps
 unfolding stream_of packet_sent
-history-quiet law config programme files [] [] ok r of near same = none-yet config
-history-quiet law config programme files [] (p ∷ older) ok r of near same = absurd (let e : tlv_of (p ∷ older) ≡ [] = same ∙ nothing-sent programme files in cc)
-history-quiet law config programme files (n ∷ hist) ps ok r of near same =
-    let tlv : ℕ → Tlv = tlv_at (addressing_of programme) (cast_of programme) (contents_sent programme files) in
+history-quiet law config programme cast files [] [] ok r of near same = none-yet config
+history-quiet law config programme cast files [] (p ∷ older) ok r of near same = absurd (let e : tlv_of (p ∷ older) ≡ [] = same ∙ nothing-sent programme cast files in cc)
+history-quiet law config programme cast files (n ∷ hist) ps ok r of near same =
+    let tlv : ℕ → Tlv = tlv_at (addressing_of programme) cast (contents_sent programme files) in
     let ds : List ℕ = newest_first hist in
     let split : newest_first (n ∷ hist) ≡ ds ++ n ∷ [] = turned-one n hist in
-    let of' : AreOf (cast_of programme).packets (ds ++ n ∷ []) = subst (AreOf (cast_of programme).packets) split of in
-    let near' : NearDelivery (cast_of programme).packets (tuned_places (cast_of programme) programme.full_every (ds ++ n ∷ [])) = subst (λ (xs : List ℕ). NearDelivery (cast_of programme).packets (tuned_places (cast_of programme) programme.full_every xs)) split near in
-    by-first ps (same ∙ ap (λ (xs : List ℕ). newest_first (stream_of programme files xs)) split) of' near'
-    (λ older same'. history-quiet law config programme files hist older ok r (of-start (cast_of programme).packets ds (n ∷ []) of') (near-older programme ds (n ∷ []) near') same')
+    let of' : AreOf cast.packets (ds ++ n ∷ []) = subst (AreOf cast.packets) split of in
+    let near' : NearDelivery cast.packets (tuned_places cast programme.full_every (ds ++ n ∷ [])) = subst (λ (xs : List ℕ). NearDelivery cast.packets (tuned_places cast programme.full_every xs)) split near in
+    by-first ps (same ∙ ap (λ (xs : List ℕ). newest_first (stream_of programme cast files xs)) split) of' near'
+    (λ older same'. history-quiet law config programme cast files hist older ok r (of-start cast.packets ds (n ∷ []) of') (near-older programme cast ds (n ∷ []) near') same')
   where
-    by-first : (ps : List Placed) → tlv_of ps ≡ newest_first (stream_of programme files (newest_first hist ++ n ∷ [])) → AreOf (cast_of programme).packets (newest_first hist ++ n ∷ []) → NearDelivery (cast_of programme).packets (tuned_places (cast_of programme) programme.full_every (newest_first hist ++ n ∷ []))
-        → ((older : List Placed) → tlv_of older ≡ newest_first (stream_of programme files (newest_first hist)) → Quiet config older) → Quiet config ps
+    by-first : (ps : List Placed) → tlv_of ps ≡ newest_first (stream_of programme cast files (newest_first hist ++ n ∷ [])) → AreOf cast.packets (newest_first hist ++ n ∷ []) → NearDelivery cast.packets (tuned_places cast programme.full_every (newest_first hist ++ n ∷ []))
+        → ((older : List Placed) → tlv_of older ≡ newest_first (stream_of programme cast files (newest_first hist)) → Quiet config older) → Quiet config ps
     by-first [] same of near later = none-yet config
     by-first (p ∷ older) same of near later =
-        let next : IsNext programme files (newest_first hist) n older p = is-next programme files (newest_first hist) n older p same in
-        one-more config p older (later older (next.rest ∙ turned-map (tlv_at (addressing_of programme) (cast_of programme) (contents_sent programme files)) (newest_first hist))) (law config programme files (newest_first hist) n older p ok r of near same)
+        let next : IsNext programme cast files (newest_first hist) n older p = is-next programme cast files (newest_first hist) n older p same in
+        one-more config p older (later older (next.rest ∙ turned-map (tlv_at (addressing_of programme) cast (contents_sent programme files)) (newest_first hist))) (law config programme cast files (newest_first hist) n older p ok r of near same)
 
 pub streams-quiet : NotesAreQuiet → StreamsAreQuiet
-streams-quiet law config programme files delivery ps ok r of near same =
+streams-quiet law config programme cast files delivery ps ok r of near same =
     let twice : delivery ≡ newest_first (newest_first delivery) = sym (turned-twice delivery) in
-    history-quiet law config programme files (newest_first delivery) ps ok r (subst (AreOf (cast_of programme).packets) twice of) (subst (λ (xs : List ℕ). NearDelivery (cast_of programme).packets (tuned_places (cast_of programme) programme.full_every xs)) twice near)
-    (same ∙ ap (λ (xs : List ℕ). newest_first (stream_of programme files xs)) twice)
+    history-quiet law config programme cast files (newest_first delivery) ps ok r (subst (AreOf cast.packets) twice of) (subst (λ (xs : List ℕ). NearDelivery cast.packets (tuned_places cast programme.full_every xs)) twice near)
+    (same ∙ ap (λ (xs : List ℕ). newest_first (stream_of programme cast files xs)) twice)

@@ -3,13 +3,13 @@ use Rattle.std.proofs.Common.{◌≡◌, inl, ℕ, ◌+◌, ◌%◌, ◌<◌, Bo
 use Rattle.std.specs.List.{All}
 use Rattle.std.proofs.lemmas.List.{append-nil, length-append}
 use Rattle.std.proofs.lemmas.List.Elements.{All-nil, All-cons}
-use Rattle.mmt_cast.specs.Casting.{cast_of}
 use Rattle.mmt_fields.proofs.Numbers.{length_big_endian}
 use Rattle.mmt_ip.specs.declared.packet.Ip6Header.{Ip6Header}
 use Rattle.mmt_ip.specs.Spelling.{Value as Datagram, spelling as datagram_spelling}
 use Rattle.mmt_ctx.specs.Spelling.{full_header, spelling as compressed_spelling}
 use Rattle.mmt_ctx.specs.Squeezing.{packet_at}
 use Rattle.mmt_model.specs.Survival.{AreOf}
+use Rattle.mmt_model.specs.declared.casts.Cast.{Cast}
 use Rattle.mmt_model.specs.declared.programmes.Programme.{Programme}
 use Rattle.mmt_packet.specs.Spelling.{spelling as packet_spelling}
 use Rattle.mmt_tlv.specs.Framing.{Fits, joined}
@@ -42,16 +42,16 @@ addressed-fits a call payload lt = go (a.full_every == 0)
     go true = record { kind = omega arith; length = omega (arith, datagram-long (record { header = a.header; summed = true; payload = payload })) }
     go false = record { kind = omega arith; length = compressed-long a.context (call % 16) (cond (call % a.full_every == 0) (Some a.header) None) payload lt }
 
-all-fit : (programme : Programme) (files : ℕ → List ℕ) → IsSendable programme files → (ds : List ℕ) → AreOf (cast_of programme).packets ds
-    → All Fits (map (tlv_at (addressing_of programme) (cast_of programme) (contents_sent programme files)) ds)
-all-fit programme files ok [] of = All-nil Fits
-all-fit programme files ok (d ∷ ds) of =
-    let s : IsSentAt (cast_of programme) (contents_sent programme files) d = casts-sent programme files ok d of.0 in
-    All-cons Fits (tlv_at (addressing_of programme) (cast_of programme) (contents_sent programme files) d) (map (tlv_at (addressing_of programme) (cast_of programme) (contents_sent programme files)) ds)
-    (addressed-fits (addressing_of programme) d (packet_spelling (mmtp_at (cast_of programme) (contents_sent programme files) d)) (packet-long (cast_of programme) (contents_sent programme files) d s))
-    (all-fit programme files ok ds of.1)
+all-fit : (programme : Programme) (cast : Cast) (files : ℕ → List ℕ) → IsSendable programme cast files → (ds : List ℕ) → AreOf cast.packets ds
+    → All Fits (map (tlv_at (addressing_of programme) cast (contents_sent programme files)) ds)
+all-fit programme cast files ok [] of = All-nil Fits
+all-fit programme cast files ok (d ∷ ds) of =
+    let s : IsSentAt cast (contents_sent programme files) d = casts-sent programme cast files ok d of.0 in
+    All-cons Fits (tlv_at (addressing_of programme) cast (contents_sent programme files) d) (map (tlv_at (addressing_of programme) cast (contents_sent programme files)) ds)
+    (addressed-fits (addressing_of programme) d (packet_spelling (mmtp_at cast (contents_sent programme files) d)) (packet-long cast (contents_sent programme files) d s))
+    (all-fit programme cast files ok ds of.1)
 
 pub streams-framed : StreamsAreFramed
 unfolding stream_of packet_sent
-streams-framed programme files delivery ok of =
-    record { whole = sym (append-nil (joined (stream_of programme files delivery))); each = all-fit programme files ok delivery of; left = inl front_nil }
+streams-framed programme cast files delivery ok of =
+    record { whole = sym (append-nil (joined (stream_of programme cast files delivery))); each = all-fit programme cast files ok delivery of; left = inl front_nil }

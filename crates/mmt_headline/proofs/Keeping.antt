@@ -3,7 +3,6 @@ use Rattle.mmt_headline.proofs.Sound.{sound}
 use Rattle.std.proofs.Common.{◌≡◌, ◌⊎◌, inl, inr, ℕ, ◌<◌, Bool, true, false, cond, List, [], ◌∷◌, map, length, get_or, Some, refl, sym, ap, ◌∙◌}
 use Rattle.std.specs.List.{AllByRecursion}
 use Rattle.mmt_base.specs.Ticks.{low}
-use Rattle.mmt_cast.specs.Casting.{cast_of}
 use Rattle.mmt_delivery.specs.Laws.{start_heard}
 use Rattle.mmt_model.specs.Admission.{has_parameters}
 use Rattle.mmt_model.specs.Carrying.{packets_of}
@@ -57,10 +56,10 @@ pub of-each : (packets : List Sent) (ds : List ℕ) → AllByRecursion (λ n. n 
 of-each packets [] h = tt
 of-each packets (d ∷ ds) h = (h.0, of-each packets ds h.1)
 
-pub tuned-of : (programme : Programme) (delivery : List ℕ) → AreOf (cast_of programme).packets delivery → AreOf (cast_of programme).packets (tuned_places (cast_of programme) programme.full_every delivery)
+pub tuned-of : (programme : Programme) (cast : Cast) (delivery : List ℕ) → AreOf cast.packets delivery → AreOf cast.packets (tuned_places cast programme.full_every delivery)
 unfolding tuned_places tunes_at
-tuned-of programme delivery of =
-    let packets : List Sent = (cast_of programme).packets in
+tuned-of programme cast delivery of =
+    let packets : List Sent = cast.packets in
     of-each packets (from_first (λ n. has_parameters (get_or packets n no_packet).carries) (from_heard programme.full_every delivery))
     (each-from-first (λ n. n < length packets) (λ n. has_parameters (get_or packets n no_packet).carries) (from_heard programme.full_every delivery)
     (each-from-heard (λ n. n < length packets) programme.full_every delivery (each-of packets delivery of)))
@@ -90,21 +89,20 @@ by-first config programme ps first kept values (inr e) = inr (values ∙ e)
 
 pub keeps-to : ReceiversKeepTo
 unfolding stream_of packet_sent
-keeps-to config programme files delivery ps ok r of same =
-    let cast : Cast = cast_of programme in
+keeps-to config programme cast files delivery ps ok r of same =
     let packets : SentPackets = packets_of cast (contents_sent programme files) in
-    let heard : DeliveryIs (addressing_of programme) cast (contents_sent programme files) config.flow delivery ps = deliveries-heard (addressing_of programme) cast (contents_sent programme files) config.flow delivery ps (sound programme files ok).can.address r.flow (casts-sent programme files ok) of same in
+    let heard : DeliveryIs (addressing_of programme) cast (contents_sent programme files) config.flow delivery ps = deliveries-heard (addressing_of programme) cast (contents_sent programme files) config.flow delivery ps (sound programme cast files ok).can.address r.flow (casts-sent programme cast files ok) of same in
     let first : List Heard = from_first (tunes_by config.bound) (map (heard_of packets) (from_heard programme.full_every delivery)) in
     let is : session config heard.packets ≡ first = session-of config heard.packets (map (heard_of packets) (from_heard programme.full_every delivery)) r.assumed heard.places in
     let alike : SessionIs config heard.packets = sessions-alike config heard.packets in
-    let places : first ≡ map (heard_of packets) (tuned_places (cast_of programme) programme.full_every delivery) =
-    first-map (tunes_by config.bound) (heard_of packets) (from_heard programme.full_every delivery) ∙ ap (map (heard_of packets)) (places-alike programme files config.bound ok r.bound delivery of) in
+    let places : first ≡ map (heard_of packets) (tuned_places cast programme.full_every delivery) =
+    first-map (tunes_by config.bound) (heard_of packets) (from_heard programme.full_every delivery) ∙ ap (map (heard_of packets)) (places-alike programme cast files config.bound ok r.bound delivery of) in
     let kept : session_of config ps ≡ newest_first first = ap (history config) heard.stream ∙ alike.history ∙ ap newest_first is in
-    let all : session_of config ps ≡ map (heard_of packets) (newest_first (tuned_places (cast_of programme) programme.full_every delivery)) =
-    kept ∙ ap newest_first places ∙ sym (turned-map (heard_of packets) (tuned_places (cast_of programme) programme.full_every delivery)) in
+    let all : session_of config ps ≡ map (heard_of packets) (newest_first (tuned_places cast programme.full_every delivery)) =
+    kept ∙ ap newest_first places ∙ sym (turned-map (heard_of packets) (tuned_places cast programme.full_every delivery)) in
     let values : values_of config ps ≡ first_values config.bound first = ap (tuned config) heard.stream ∙ alike.values ∙ ap (values_first config) is ∙ first-alike config first r.assumed in
     record {
       packets = all;
-      values = by-first config programme ps first kept values (params-first programme files config.bound (from_heard programme.full_every delivery) (each-from-heard (Tunes programme files config.bound) programme.full_every delivery (all-tune programme files config.bound ok r.bound delivery of)));
-      start = ap start_of_session all ∙ start-turned packets (tuned_places (cast_of programme) programme.full_every delivery);
+      values = by-first config programme ps first kept values (params-first programme cast files config.bound (from_heard programme.full_every delivery) (each-from-heard (Tunes programme cast files config.bound) programme.full_every delivery (all-tune programme cast files config.bound ok r.bound delivery of)));
+      start = ap start_of_session all ∙ start-turned packets (tuned_places cast programme.full_every delivery);
     }

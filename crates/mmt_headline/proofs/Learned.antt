@@ -18,7 +18,7 @@ pub record IsLearned (now : ℕ) (all : List Entry) (e : Entry) : Type 0 where
   pub agrees : AllByRecursion (Agrees e) all
   pub there : is_after (low (last_due e)) now ≡ true → list_any (is_of_same_mpu e) all ≡ true
 
--- ---- what is learned stands behind what was there
+-- ---- what is learned stands after what was there
 
 learned-one : (now : ℕ) (xs : List Entry) (e : Entry) → (added : List Entry) × (learn_one now xs e ≡ xs ++ added)
 unfolding learn_one

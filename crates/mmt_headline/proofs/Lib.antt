@@ -1,3 +1,4 @@
+pub mod Alike
 pub mod AllNotes
 pub mod CastTuning
 pub mod Delivered

@@ -3,7 +3,6 @@ use Rattle.mmt_headline.proofs.Sound.{sound}
 use Rattle.std.proofs.Common.{◌≡◌, ◌⊎◌, inl, inr, ℕ, ◌+◌, ◌<◌, Bool, true, false, cond, List, [], ◌∷◌, ◌++◌, map, length, get_or, Option, Some, None, count_by, refl, sym, ap, subst, ◌∙◌}
 use Rattle.std.specs.Prelude.{is_some}
 use Rattle.std.specs.List.{AllByRecursion}
-use Rattle.mmt_cast.specs.Casting.{cast_of}
 use Rattle.mmt_cast.proofs.Listing.{each-at}
 use Rattle.mmt_delivery.specs.Laws.{OutcomesAre, PeakFits}
 use Rattle.mmt_delivery.specs.Tables.{MessagesAreSent, NamesAreLearned}
@@ -18,6 +17,7 @@ use Rattle.mmt_model.specs.Survival.{AreOf, heard_of, no_packet}
 use Rattle.mmt_model.specs.declared.casts.Carries.{Carries}
 use Rattle.mmt_model.specs.declared.casts.Sent.{Sent}
 use Rattle.mmt_model.specs.declared.programmes.Params.{Params}
+use Rattle.mmt_model.specs.declared.casts.Cast.{Cast}
 use Rattle.mmt_model.specs.declared.programmes.Programme.{Programme}
 use Rattle.mmt_model.proofs.Newest.{newest_more}
 use Rattle.mmt_recv.specs.Noting.{PlacedNote, at_place, notes_by, notes_of_packet, outcome_notes, payload_place, said_by, untuned_notes, heard_notes, tuned_notes}
@@ -54,18 +54,18 @@ use Rattle.mmt_hear.specs.declared.why.Why.TheVariants as why
 -- ---- a packet more
 
 -- the newest packet, and the older ones
-pub record IsNext (programme : Programme) (files : ℕ → List ℕ) (delivery : List ℕ) (n : ℕ) (older : List Placed) (p : Placed) : Type 0 where
-  pub first : p.packet ≡ tlv_at (addressing_of programme) (cast_of programme) (contents_sent programme files) n
-  pub rest : tlv_of older ≡ map (tlv_at (addressing_of programme) (cast_of programme) (contents_sent programme files)) (newest_first delivery)
+pub record IsNext (programme : Programme) (cast : Cast) (files : ℕ → List ℕ) (delivery : List ℕ) (n : ℕ) (older : List Placed) (p : Placed) : Type 0 where
+  pub first : p.packet ≡ tlv_at (addressing_of programme) cast (contents_sent programme files) n
+  pub rest : tlv_of older ≡ map (tlv_at (addressing_of programme) cast (contents_sent programme files)) (newest_first delivery)
 
 maps-append : {X Y : Type 0} (f : X → Y) (xs ys : List X) → map f (xs ++ ys) ≡ map f xs ++ map f ys
 maps-append f [] ys = refl
 maps-append {X} {Y} f (x ∷ xs) ys = ap (λ (zs : List Y). f x ∷ zs) (maps-append f xs ys)
 
-pub is-next : (programme : Programme) (files : ℕ → List ℕ) (delivery : List ℕ) (n : ℕ) (older : List Placed) (p : Placed) → tlv_of (p ∷ older) ≡ newest_first (stream_of programme files (delivery ++ n ∷ [])) → IsNext programme files delivery n older p
+pub is-next : (programme : Programme) (cast : Cast) (files : ℕ → List ℕ) (delivery : List ℕ) (n : ℕ) (older : List Placed) (p : Placed) → tlv_of (p ∷ older) ≡ newest_first (stream_of programme cast files (delivery ++ n ∷ [])) → IsNext programme cast files delivery n older p
 unfolding stream_of packet_sent
-is-next programme files delivery n older p same =
-    let tlv : ℕ → Tlv = tlv_at (addressing_of programme) (cast_of programme) (contents_sent programme files) in
+is-next programme cast files delivery n older p same =
+    let tlv : ℕ → Tlv = tlv_at (addressing_of programme) cast (contents_sent programme files) in
     let all : p.packet ∷ tlv_of older ≡ tlv n ∷ newest_first (map tlv delivery) = same ∙ ap newest_first (maps-append tlv delivery (n ∷ [])) ∙ newest_more (map tlv delivery) (tlv n) in
     let rest : tlv_of older ≡ newest_first (map tlv delivery) = cc in
     record { first = cc; rest = rest ∙ sym (turned-map tlv delivery) }
@@ -106,42 +106,42 @@ not-some true values e = absurd cc
 not-some false values e = refl
 
 -- a heard packet of the cast
-record IsPacket (programme : Programme) (files : ℕ → List ℕ) (n : ℕ) : Type 0 where
-  sent : IsSentAt (cast_of programme) (contents_sent programme files) n
-  is : PacketIs (cast_of programme) (contents_sent programme files) n
-  says : Says programme files (get_or (cast_of programme).packets n no_packet).carries (get_or (cast_of programme).packets n no_packet).packet_id
+record IsPacket (programme : Programme) (cast : Cast) (files : ℕ → List ℕ) (n : ℕ) : Type 0 where
+  sent : IsSentAt cast (contents_sent programme files) n
+  is : PacketIs cast (contents_sent programme files) n
+  says : Says programme files (get_or cast.packets n no_packet).carries (get_or cast.packets n no_packet).packet_id
 
-is-packet : (programme : Programme) (files : ℕ → List ℕ) → IsSendable programme files → (n : ℕ) → n < length (cast_of programme).packets → IsPacket programme files n
-is-packet programme files ok n l =
-    let sent : IsSentAt (cast_of programme) (contents_sent programme files) n = casts-sent programme files ok n l in
-    record { sent = sent; is = packets-heard (cast_of programme) (contents_sent programme files) n sent; says = each-at (λ (p : Sent). Says programme files p.carries p.packet_id) (cast_of programme).packets n no_packet (each-says programme files ok) l }
+is-packet : (programme : Programme) (cast : Cast) (files : ℕ → List ℕ) → IsSendable programme cast files → (n : ℕ) → n < length cast.packets → IsPacket programme cast files n
+is-packet programme cast files ok n l =
+    let sent : IsSentAt cast (contents_sent programme files) n = casts-sent programme cast files ok n l in
+    record { sent = sent; is = packets-heard cast (contents_sent programme files) n sent; says = each-at (λ (p : Sent). Says programme files p.carries p.packet_id) cast.packets n no_packet (each-says programme cast files ok) l }
 
 -- ---- before tuning nothing is noted of it
 
-payload-is : (programme : Programme) (files : ℕ → List ℕ) (n : ℕ) → IsPacket programme files n → (heard_as (mmtp_at (cast_of programme) (contents_sent programme files) n)).payload ≡ payload_carried (cast_of programme) (contents_sent programme files) (get_or (cast_of programme).packets n no_packet).carries
+payload-is : (programme : Programme) (cast : Cast) (files : ℕ → List ℕ) (n : ℕ) → IsPacket programme cast files n → (heard_as (mmtp_at cast (contents_sent programme files) n)).payload ≡ payload_carried cast (contents_sent programme files) (get_or cast.packets n no_packet).carries
 unfolding heard_of
-payload-is programme files n x = ap (λ (h : Heard). h.payload) x.is.heard
+payload-is programme cast files n x = ap (λ (h : Heard). h.payload) x.is.heard
 
-quiet-before : (config : Config) (programme : Programme) (files : ℕ → List ℕ) (n place : ℕ) → IsSendable programme files → Receives config programme → n < length (cast_of programme).packets → IsPacket programme files n
-    → values_by config.assumed config.bound (mmtp_at (cast_of programme) (contents_sent programme files) n) ≡ None
-    → untuned_notes config.bound (record { place = place; packet = mmtp_at (cast_of programme) (contents_sent programme files) n }) ≡ []
+quiet-before : (config : Config) (programme : Programme) (cast : Cast) (files : ℕ → List ℕ) (n place : ℕ) → IsSendable programme cast files → Receives config programme → n < length cast.packets → IsPacket programme cast files n
+    → values_by config.assumed config.bound (mmtp_at cast (contents_sent programme files) n) ≡ None
+    → untuned_notes config.bound (record { place = place; packet = mmtp_at cast (contents_sent programme files) n }) ≡ []
 unfolding mmtp_at
-quiet-before config programme files n place ok r l x none =
-    let c : Carries = (get_or (cast_of programme).packets n no_packet).carries in
-    let values : values_with None config.bound (heard_of (packets_of (cast_of programme) (contents_sent programme files)) n) ≡ None =
-    sym (ap (values_with None config.bound) x.is.heard) ∙ sym (ap (λ (assumed : Option (ℕ × ℕ)). values_with assumed config.bound (heard_as (mmtp_at (cast_of programme) (contents_sent programme files) n))) r.assumed)
-    ∙ tunes-alike config.assumed config.bound (mmtp_at (cast_of programme) (contents_sent programme files) n) ∙ none in
-    let without : has_parameters c ≡ false = not-some (has_parameters c) programme.params (sym (casts-tune programme files config.bound ok r.bound n l) ∙ values) in
-    untuned programme files config.bound _ c (get_or (cast_of programme).packets n no_packet).packet_id x.says without
+quiet-before config programme cast files n place ok r l x none =
+    let c : Carries = (get_or cast.packets n no_packet).carries in
+    let values : values_with None config.bound (heard_of (packets_of cast (contents_sent programme files)) n) ≡ None =
+    sym (ap (values_with None config.bound) x.is.heard) ∙ sym (ap (λ (assumed : Option (ℕ × ℕ)). values_with assumed config.bound (heard_as (mmtp_at cast (contents_sent programme files) n))) r.assumed)
+    ∙ tunes-alike config.assumed config.bound (mmtp_at cast (contents_sent programme files) n) ∙ none in
+    let without : has_parameters c ≡ false = not-some (has_parameters c) programme.params (sym (casts-tune programme cast files config.bound ok r.bound n l) ∙ values) in
+    untuned programme cast files config.bound _ c (get_or cast.packets n no_packet).packet_id x.says without
 
 -- ---- from tuning on
 
-is-there : (programme : Programme) (files : ℕ → List ℕ) (n : ℕ) → IsPacket programme files n
-    → (let m = mmtp_at (cast_of programme) (contents_sent programme files) n in is_opened m.packet_id m.kind m.payload ≡ true)
+is-there : (programme : Programme) (cast : Cast) (files : ℕ → List ℕ) (n : ℕ) → IsPacket programme cast files n
+    → (let m = mmtp_at cast (contents_sent programme files) n in is_opened m.packet_id m.kind m.payload ≡ true)
 unfolding mmtp_at
-is-there programme files n x =
-    let is : PayloadIs (written_at (cast_of programme) (contents_sent programme files) n) (get_or (cast_of programme).packets n no_packet).packet_id =
-    payloads (written_at (cast_of programme) (contents_sent programme files) n) (get_or (cast_of programme).packets n no_packet).packet_id x.sent.can x.sent.id in is.opened
+is-there programme cast files n x =
+    let is : PayloadIs (written_at cast (contents_sent programme files) n) (get_or cast.packets n no_packet).packet_id =
+    payloads (written_at cast (contents_sent programme files) n) (get_or cast.packets n no_packet).packet_id x.sent.can x.sent.id in is.opened
 
 -- what is known of a packet from tuning on: the values are the programme's, and it has room
 record IsTuned (config : Config) (programme : Programme) (h : HeardAt) (hs : List HeardAt) (values : Params) : Type 0 where
@@ -165,30 +165,30 @@ is-tuned config programme ps h hs values is some known full =
     by-values session tuning (inr right) = some-same values programme.params (sym tuning ∙ right)
 
 -- what it says is nothing where it carries a table or a part of one and is stored
-abbrev Tabled : Config → Programme → ℕ → HeardAt → List HeardAt → Type 0
-Tabled config programme n h hs =
-    has_table (get_or (cast_of programme).packets n no_packet).carries ≡ true → outcome_of config programme.params (heard_as h.packet) (history config hs) ≡ Outcome.Stored → said_by config programme.params (history config hs) h ≡ []
+abbrev Tabled : Config → Programme → Cast → ℕ → HeardAt → List HeardAt → Type 0
+Tabled config programme cast n h hs =
+    has_table (get_or cast.packets n no_packet).carries ≡ true → outcome_of config programme.params (heard_as h.packet) (history config hs) ≡ Outcome.Stored → said_by config programme.params (history config hs) h ≡ []
 
-quiet-after : (config : Config) (programme : Programme) (files : ℕ → List ℕ) (n place : ℕ) (hs : List HeardAt) (values : Params) → IsSendable programme files → IsPacket programme files n
-    → (let h : HeardAt = record { place = place; packet = mmtp_at (cast_of programme) (contents_sent programme files) n } in IsTuned config programme h hs values → Tabled config programme n h hs → AreQuiet (tuned_notes config values (history config hs) h))
-quiet-after config programme files n place hs values ok x t tabled =
-    let h : HeardAt = record { place = place; packet = mmtp_at (cast_of programme) (contents_sent programme files) n } in
+quiet-after : (config : Config) (programme : Programme) (cast : Cast) (files : ℕ → List ℕ) (n place : ℕ) (hs : List HeardAt) (values : Params) → IsSendable programme cast files → IsPacket programme cast files n
+    → (let h : HeardAt = record { place = place; packet = mmtp_at cast (contents_sent programme files) n } in IsTuned config programme h hs values → Tabled config programme cast n h hs → AreQuiet (tuned_notes config values (history config hs) h))
+quiet-after config programme cast files n place hs values ok x t tabled =
+    let h : HeardAt = record { place = place; packet = mmtp_at cast (contents_sent programme files) n } in
     let older : List Heard = history config hs in
-    let p : Sent = get_or (cast_of programme).packets n no_packet in
+    let p : Sent = get_or cast.packets n no_packet in
     let now : ℕ = clock_of (heard_as h.packet ∷ older) in
     let held : ℕ = bytes_of_kept (rest_of config values (heard_as h.packet) older) in
     let said : List PlacedNote = said_by config values older h in
     let becomes : Outcome = outcome_of config values (heard_as h.packet) older in
     let rest : List PlacedNote = outcome_notes now held (length h.packet.payload) h said becomes in
-    let kind : tuned_notes config values older h ≡ rest = opened-notes h h.packet.kind rest (is-there programme files n x) in
+    let kind : tuned_notes config values older h ≡ rest = opened-notes h h.packet.kind rest (is-there programme cast files n x) in
     let own : said ≡ said_by config programme.params older h = ap (λ (v : Params). said_by config v older h) t.same in
     by-outcome h (tuned_notes config values older h) rest said becomes kind (quiet-outcome now held (length h.packet.payload) h said becomes t.room) own (has_table p.carries) refl
     (λ has stored. tabled has (ap (λ (v : Params). outcome_of config v (heard_as h.packet) older) (sym t.same) ∙ stored))
-    (λ none. said-nothing config programme files older h p.carries p.packet_id x.says none (payload-is programme files n x))
+    (λ none. said-nothing config programme cast files older h p.carries p.packet_id x.says none (payload-is programme cast files n x))
   where
-    by-outcome : (h : HeardAt) (all rest said : List PlacedNote) (becomes : Outcome) → all ≡ rest → AreQuiet rest ⊎ ((rest ≡ said) × (becomes ≡ Outcome.Stored)) → said ≡ said_by config programme.params (history config hs) h → (b : Bool) → has_table (get_or (cast_of programme).packets n no_packet).carries ≡ b
-        → (has_table (get_or (cast_of programme).packets n no_packet).carries ≡ true → becomes ≡ Outcome.Stored → said_by config programme.params (history config hs) h ≡ [])
-        → (has_table (get_or (cast_of programme).packets n no_packet).carries ≡ false → said_by config programme.params (history config hs) h ≡ [])
+    by-outcome : (h : HeardAt) (all rest said : List PlacedNote) (becomes : Outcome) → all ≡ rest → AreQuiet rest ⊎ ((rest ≡ said) × (becomes ≡ Outcome.Stored)) → said ≡ said_by config programme.params (history config hs) h → (b : Bool) → has_table (get_or cast.packets n no_packet).carries ≡ b
+        → (has_table (get_or cast.packets n no_packet).carries ≡ true → becomes ≡ Outcome.Stored → said_by config programme.params (history config hs) h ≡ [])
+        → (has_table (get_or cast.packets n no_packet).carries ≡ false → said_by config programme.params (history config hs) h ≡ [])
         → AreQuiet all
     by-outcome h all rest said becomes e (inl quiet) own b is tabled nothing = subst AreQuiet (sym e) quiet
     by-outcome h all rest said becomes e (inr same) own true is tabled nothing = subst AreQuiet (sym (e ∙ same.0 ∙ own ∙ tabled is same.1)) tt
@@ -196,53 +196,53 @@ quiet-after config programme files n place hs values ok x t tabled =
 
 -- ---- each packet
 
-heard-quiet : (config : Config) (programme : Programme) (files : ℕ → List ℕ) (n : ℕ) (older : List Placed) (p : Placed) (from : ℕ) → IsSendable programme files → Receives config programme → n < length (cast_of programme).packets
-    → IsPacket programme files n → hearing config.flow (tlv_of older) p.packet ≡ Hearing.Heard (mmtp_at (cast_of programme) (contents_sent programme files) n) from
+heard-quiet : (config : Config) (programme : Programme) (cast : Cast) (files : ℕ → List ℕ) (n : ℕ) (older : List Placed) (p : Placed) (from : ℕ) → IsSendable programme cast files → Receives config programme → n < length cast.packets
+    → IsPacket programme cast files n → hearing config.flow (tlv_of older) p.packet ≡ Hearing.Heard (mmtp_at cast (contents_sent programme files) n) from
     → (session_of config (p ∷ older) ≡ []) ⊎ (values_of config (p ∷ older) ≡ Some programme.params) → (summary_of config (p ∷ older)).full ≡ 0
-    → (let h : HeardAt = record { place = p.place + from; packet = mmtp_at (cast_of programme) (contents_sent programme files) n } in let hs = heard_in config.flow older in
-    ((values : Params) → tuned config (h ∷ hs) ≡ Some values → Tabled config programme n h hs) → (o : Option Params) → tuned config (h ∷ hs) ≡ o → AreQuiet (heard_notes config hs h o))
-heard-quiet config programme files n older p from ok r l x is known full tabled None e =
-    let h : HeardAt = record { place = p.place + from; packet = mmtp_at (cast_of programme) (contents_sent programme files) n } in
-    subst AreQuiet (sym (quiet-before config programme files n (p.place + from) ok r l x (not-tuning config h (heard_in config.flow older) e))) tt
-heard-quiet config programme files n older p from ok r l x is known full tabled (Some values) e =
-    let m : Mmtp = mmtp_at (cast_of programme) (contents_sent programme files) n in
+    → (let h : HeardAt = record { place = p.place + from; packet = mmtp_at cast (contents_sent programme files) n } in let hs = heard_in config.flow older in
+    ((values : Params) → tuned config (h ∷ hs) ≡ Some values → Tabled config programme cast n h hs) → (o : Option Params) → tuned config (h ∷ hs) ≡ o → AreQuiet (heard_notes config hs h o))
+heard-quiet config programme cast files n older p from ok r l x is known full tabled None e =
+    let h : HeardAt = record { place = p.place + from; packet = mmtp_at cast (contents_sent programme files) n } in
+    subst AreQuiet (sym (quiet-before config programme cast files n (p.place + from) ok r l x (not-tuning config h (heard_in config.flow older) e))) tt
+heard-quiet config programme cast files n older p from ok r l x is known full tabled (Some values) e =
+    let m : Mmtp = mmtp_at cast (contents_sent programme files) n in
     let h : HeardAt = record { place = p.place + from; packet = m } in
-    quiet-after config programme files n (p.place + from) (heard_in config.flow older) values ok x (is-tuned config programme (p ∷ older) h (heard_in config.flow older) values (heard-more config older p m from is) e known full) (tabled values e)
+    quiet-after config programme cast files n (p.place + from) (heard_in config.flow older) values ok x (is-tuned config programme (p ∷ older) h (heard_in config.flow older) values (heard-more config older p m from is) e known full) (tabled values e)
 
 -- a packet of a session with a table or a part of one
-tabled-by : NamesAreLearned → MessagesAreSent → (config : Config) (programme : Programme) (files : ℕ → List ℕ) (delivery : List ℕ) (n : ℕ) (older : List Placed) (p : Placed) (from : ℕ) → IsSendable programme files → Receives config programme
-    → AreOf (cast_of programme).packets delivery → NearDelivery (cast_of programme).packets (tuned_places (cast_of programme) programme.full_every delivery) → n < length (cast_of programme).packets
-    → IsPacket programme files n → hearing config.flow (tlv_of older) p.packet ≡ Hearing.Heard (mmtp_at (cast_of programme) (contents_sent programme files) n) from
-    → KeepsTo config programme files delivery (p ∷ older)
-    → (let h : HeardAt = record { place = p.place + from; packet = mmtp_at (cast_of programme) (contents_sent programme files) n } in let hs = heard_in config.flow older in
-    (values : Params) → tuned config (h ∷ hs) ≡ Some values → Tabled config programme n h hs)
-tabled-by names messages config programme files delivery n older p from ok r of near l x is keeps values e has stored =
-    let m : Mmtp = mmtp_at (cast_of programme) (contents_sent programme files) n in
+tabled-by : NamesAreLearned → MessagesAreSent → (config : Config) (programme : Programme) (cast : Cast) (files : ℕ → List ℕ) (delivery : List ℕ) (n : ℕ) (older : List Placed) (p : Placed) (from : ℕ) → IsSendable programme cast files → Receives config programme
+    → AreOf cast.packets delivery → NearDelivery cast.packets (tuned_places cast programme.full_every delivery) → n < length cast.packets
+    → IsPacket programme cast files n → hearing config.flow (tlv_of older) p.packet ≡ Hearing.Heard (mmtp_at cast (contents_sent programme files) n) from
+    → KeepsTo config programme cast files delivery (p ∷ older)
+    → (let h : HeardAt = record { place = p.place + from; packet = mmtp_at cast (contents_sent programme files) n } in let hs = heard_in config.flow older in
+    (values : Params) → tuned config (h ∷ hs) ≡ Some values → Tabled config programme cast n h hs)
+tabled-by names messages config programme cast files delivery n older p from ok r of near l x is keeps values e has stored =
+    let m : Mmtp = mmtp_at cast (contents_sent programme files) n in
     let h : HeardAt = record { place = p.place + from; packet = m } in
     let hs : List HeardAt = heard_in config.flow older in
     let session : session_of config (p ∷ older) ≡ heard_as m ∷ history config hs = ap (history config) (heard-more config older p m from is) ∙ session-more config h hs values e in
     ap (at_place (payload_place h))
-    (table-quiet names messages config programme files (tuned_places (cast_of programme) programme.full_every delivery) n (heard_as m) (history config hs) ok r (tuned-of programme delivery of) near l x.is.heard has (sym session ∙ keeps.packets) stored)
+    (table-quiet names messages config programme cast files (tuned_places cast programme.full_every delivery) n (heard_as m) (history config hs) ok r (tuned-of programme cast delivery of) near l x.is.heard has (sym session ∙ keeps.packets) stored)
 
 pub notes-quiet : PeakFits → OutcomesAre → NamesAreLearned → MessagesAreSent → NotesAreQuiet
-notes-quiet peaks theorem names messages config programme files delivery n older p ok r of near same =
-    let packets : List Sent = (cast_of programme).packets in
-    let next : IsNext programme files delivery n older p = is-next programme files delivery n older p same in
+notes-quiet peaks theorem names messages config programme cast files delivery n older p ok r of near same =
+    let packets : List Sent = cast.packets in
+    let next : IsNext programme cast files delivery n older p = is-next programme cast files delivery n older p same in
     let l : n < length packets = is-last packets delivery n of in
-    let x : IsPacket programme files n = is-packet programme files ok n l in
-    let keeps : KeepsTo config programme files (delivery ++ n ∷ []) (p ∷ older) = keeps-to config programme files (delivery ++ n ∷ []) (p ∷ older) ok r of same in
-    let room : HasRoom config programme (p ∷ older) = have-room peaks theorem config programme files (delivery ++ n ∷ []) (p ∷ older) ok r of near same in
+    let x : IsPacket programme cast files n = is-packet programme cast files ok n l in
+    let keeps : KeepsTo config programme cast files (delivery ++ n ∷ []) (p ∷ older) = keeps-to config programme cast files (delivery ++ n ∷ []) (p ∷ older) ok r of same in
+    let room : HasRoom config programme (p ∷ older) = have-room peaks theorem config programme cast files (delivery ++ n ∷ []) (p ∷ older) ok r of near same in
     by-hearing x l keeps room
-    (each-heard-or-refused (addressing_of programme) (cast_of programme) (contents_sent programme files) config.flow (newest_first delivery) n older p.packet (sound programme files ok).can.address r.flow (casts-sent programme files ok) (turned-of packets delivery n of) next.rest next.first)
+    (each-heard-or-refused (addressing_of programme) cast (contents_sent programme files) config.flow (newest_first delivery) n older p.packet (sound programme cast files ok).can.address r.flow (casts-sent programme cast files ok) (turned-of packets delivery n of) next.rest next.first)
   where
-    by-hearing : IsPacket programme files n → n < length (cast_of programme).packets → KeepsTo config programme files (delivery ++ n ∷ []) (p ∷ older) → HasRoom config programme (p ∷ older)
-        → ((from : ℕ) × (hearing config.flow (tlv_of older) p.packet ≡ Hearing.Heard (mmtp_at (cast_of programme) (contents_sent programme files) n) from)) ⊎ (hearing config.flow (tlv_of older) p.packet ≡ Hearing.Refusal 4 (why.CtxNone programme.context))
+    by-hearing : IsPacket programme cast files n → n < length cast.packets → KeepsTo config programme cast files (delivery ++ n ∷ []) (p ∷ older) → HasRoom config programme (p ∷ older)
+        → ((from : ℕ) × (hearing config.flow (tlv_of older) p.packet ≡ Hearing.Heard (mmtp_at cast (contents_sent programme files) n) from)) ⊎ (hearing config.flow (tlv_of older) p.packet ≡ Hearing.Refusal 4 (why.CtxNone programme.context))
         → AreQuiet (notes_of_packet config older p)
     by-hearing x l keeps room (inr refused) = subst AreQuiet (sym (notes-are config older p (Hearing.Refusal 4 (why.CtxNone programme.context)) refused)) (tt, tt)
     by-hearing x l keeps room (inl heard) =
-        let h : HeardAt = record { place = p.place + heard.0; packet = mmtp_at (cast_of programme) (contents_sent programme files) n } in
+        let h : HeardAt = record { place = p.place + heard.0; packet = mmtp_at cast (contents_sent programme files) n } in
         let hs : List HeardAt = heard_in config.flow older in
-        let are : notes_of_packet config older p ≡ heard_notes config hs h (tuned config (h ∷ hs)) = notes-are config older p (Hearing.Heard (mmtp_at (cast_of programme) (contents_sent programme files) n) heard.0) heard.1 in
+        let are : notes_of_packet config older p ≡ heard_notes config hs h (tuned config (h ∷ hs)) = notes-are config older p (Hearing.Heard (mmtp_at cast (contents_sent programme files) n) heard.0) heard.1 in
         subst AreQuiet (sym are)
-        (heard-quiet config programme files n older p heard.0 ok r l x heard.1 keeps.values room.full
-        (tabled-by names messages config programme files (delivery ++ n ∷ []) n older p heard.0 ok r of near l x heard.1 keeps) (tuned config (h ∷ hs)) refl)
+        (heard-quiet config programme cast files n older p heard.0 ok r l x heard.1 keeps.values room.full
+        (tabled-by names messages config programme cast files (delivery ++ n ∷ []) n older p heard.0 ok r of near l x heard.1 keeps) (tuned config (h ∷ hs)) refl)

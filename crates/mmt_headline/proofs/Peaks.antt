@@ -4,7 +4,6 @@ use Rattle.std.proofs.Common.{◌≡◌, ◌⊎◌, inl, inr, ℕ, ◌+◌, ◌�
 use Rattle.std.proofs.lemmas.List.{append-nil}
 use Rattle.std.proofs.lemmas.List.Sums.{sum_by-cons}
 use Rattle.mmt_base.specs.Ticks.{low}
-use Rattle.mmt_cast.specs.Casting.{cast_of}
 use Rattle.mmt_delivery.specs.Laws.{IsReceiver, OutcomesAre, PeakFits}
 use Rattle.mmt_model.proofs.Newest.{newest_more}
 use Rattle.mmt_model.proofs.Sessions.{same_kept}
@@ -88,31 +87,30 @@ some-peak : (k : Params) (hs : List Heard) (start : ℕ) → hs ≡ [] → peak 
 unfolding peak
 some-peak k hs start e = ap (peak k start) e
 
-has-room-by : (config : Config) (programme : Programme) (files : ℕ → List ℕ) (delivery : List ℕ) (ps : List Placed) → PeakFits → OutcomesAre → IsSendable programme files → Receives config programme
-    → AreOf (cast_of programme).packets delivery → NearDelivery (cast_of programme).packets (tuned_places (cast_of programme) programme.full_every delivery)
-    → KeepsTo config programme files delivery ps → (session_of config ps ≡ []) ⊎ (values_of config ps ≡ Some programme.params) → HasRoom config programme ps
-has-room-by config programme files delivery ps peaks theorem ok r of near keeps (inl none) =
+has-room-by : (config : Config) (programme : Programme) (cast : Cast) (files : ℕ → List ℕ) (delivery : List ℕ) (ps : List Placed) → PeakFits → OutcomesAre → IsSendable programme cast files → Receives config programme
+    → AreOf cast.packets delivery → NearDelivery cast.packets (tuned_places cast programme.full_every delivery)
+    → KeepsTo config programme cast files delivery ps → (session_of config ps ≡ []) ⊎ (values_of config ps ≡ Some programme.params) → HasRoom config programme ps
+has-room-by config programme cast files delivery ps peaks theorem ok r of near keeps (inl none) =
     let rules : Params = rules_by config (values_or (values_of config ps)) in
     let zero_peak = some-peak rules (session_of config ps) (start_of_session (session_of config ps)) none in
     record {
       peak = omega (arith, zero_peak);
       full = ap (λ (hs : List Heard). counted (count_by is_full (outcomes rules hs))) none;
     }
-has-room-by config programme files delivery ps peaks theorem ok r of near keeps (inr some) =
-    let cast : Cast = cast_of programme in
+has-room-by config programme cast files delivery ps peaks theorem ok r of near keeps (inr some) =
     let contents : Contents = contents_sent programme files in
     let packets : SentPackets = packets_of cast contents in
     let names = names_in config.timescale in
-    let places : List ℕ = tuned_places (cast_of programme) programme.full_every delivery in
+    let places : List ℕ = tuned_places cast programme.full_every delivery in
     let k : Params = rules_by config programme.params in
-    let right : IsCastOf cast contents names = casts-carry config.timescale programme files ok in
-    let receiver : IsReceiver cast.params k = is-receiver config programme r.bound in
-    let of_places : AreOf cast.packets places = tuned-of programme delivery of in
+    let right : IsCastOf cast contents names = casts-carry config.timescale programme cast files ok in
+    let receiver : IsReceiver cast.params k = is-receiver config programme cast ok.of r.bound in
+    let of_places : AreOf cast.packets places = tuned-of programme cast delivery of in
     let law : peak k (low (start_of cast.packets places)) (map (heard_of packets) (newest_first places)) ≤ cast.params.bound = peaks names cast contents k ok.admitted right receiver places of_places near in
     let is : peak (rules_by config (values_or (values_of config ps))) (start_of_session (session_of config ps)) (session_of config ps) ≡ peak k (low (start_of cast.packets places)) (map (heard_of packets) (newest_first places)) =
     ap (λ (o : Option Params). peak (rules_by config (values_or o)) (start_of_session (session_of config ps)) (session_of config ps)) some
     ∙ ap (λ (t : ℕ). peak k t (session_of config ps)) keeps.start ∙ ap (peak k (low (start_of cast.packets places))) keeps.packets in
-    let bound : cast.params.bound ≡ programme.params.bound = ap (λ (p : Params). p.bound) (params-of programme) in
+    let bound : cast.params.bound ≡ programme.params.bound = ap (λ (p : Params). p.bound) (params-of programme cast ok.of) in
     let twice : newest_first (newest_first places) ++ [] ≡ places = append-nil (newest_first (newest_first places)) ∙ turned-twice places in
     let none : count_by is_full (outcomes k (map (heard_of packets) (newest_first places))) ≡ 0 =
     none-full theorem names cast contents k ok.admitted right receiver (newest_first places) [] (subst (AreOf cast.packets) (sym twice) of_places) (subst (NearDelivery cast.packets) (sym twice) near) in
@@ -123,6 +121,6 @@ has-room-by config programme files delivery ps peaks theorem ok r of near keeps 
     }
 
 pub have-room : PeakFits → OutcomesAre → ReceiversHaveRoom
-have-room peaks theorem config programme files delivery ps ok r of near same =
-    let keeps : KeepsTo config programme files delivery ps = keeps-to config programme files delivery ps ok r of same in
-    has-room-by config programme files delivery ps peaks theorem ok r of near keeps keeps.values
+have-room peaks theorem config programme cast files delivery ps ok r of near same =
+    let keeps : KeepsTo config programme cast files delivery ps = keeps-to config programme cast files delivery ps ok r of same in
+    has-room-by config programme cast files delivery ps peaks theorem ok r of near keeps keeps.values

@@ -4,7 +4,6 @@ use Rattle.std.specs.Prelude.{is_ok}
 use Rattle.std.proofs.lemmas.Bool.{and_parts}
 use Rattle.std.proofs.lemmas.List.Sums.{sum_by-cons}
 use Rattle.mmt_base.specs.declared.refused.Refused.{Refused}
-use Rattle.mmt_cast.specs.Casting.{cast_of}
 use Rattle.mmt_model.specs.Carrying.{payload_carried, copy_place, role, table_copy}
 use Rattle.mmt_model.specs.Counts.{counted}
 use Rattle.mmt_model.specs.Keeping.{Outcome, is_full}
@@ -12,6 +11,7 @@ use Rattle.mmt_model.specs.Packets.{Heard}
 use Rattle.mmt_model.specs.Sessions.{outcome_at, outcomes, clock_of}
 use Rattle.mmt_model.specs.declared.casts.Carries.{Carries}
 use Rattle.mmt_model.specs.declared.programmes.Params.{Params}
+use Rattle.mmt_model.specs.declared.casts.Cast.{Cast}
 use Rattle.mmt_model.specs.declared.programmes.Programme.{Programme}
 use Rattle.mmt_mpu.specs.Reading.{payload_of as mpu_of}
 use Rattle.mmt_output.specs.declared.notes.Note.{Note}
@@ -84,40 +84,40 @@ untuned-message bound place counter packet_id p m lt id e =
 small-left : (k count : ℕ) → left k count < 2 ^ 8
 small-left k count = omega arith
 
-pub untuned : (programme : Programme) (files : ℕ → List ℕ) (bound place : ℕ) (c : Carries) (packet_id : ℕ) → Says programme files c packet_id → has_parameters c ≡ false → untuned_by bound place (written (cast_of programme) (contents_sent programme files) c) packet_id ≡ []
+pub untuned : (programme : Programme) (cast : Cast) (files : ℕ → List ℕ) (bound place : ℕ) (c : Carries) (packet_id : ℕ) → Says programme files c packet_id → has_parameters c ≡ false → untuned_by bound place (written cast (contents_sent programme files) c) packet_id ≡ []
 unfolding written
-untuned programme files bound place (carries.Whole u) packet_id says e = refl
-untuned programme files bound place (carries.Fragment u k) packet_id says e = refl
-untuned programme files bound place (carries.Group f c) packet_id says e = refl
-untuned programme files bound place (carries.Parameters s) packet_id says e = absurd cc
-untuned programme files bound place (carries.Table s) packet_id says e = untuned-message bound place 0 packet_id part.Whole _ (omega arith) says.0 (whole-untuned bound place _ says.1 says.2)
-untuned programme files bound place (carries.TablePart s k) packet_id says e =
-    let count : ℕ = (table_copy (cast_of programme) (copy_place (cast_of programme).copies s)).count in
+untuned programme cast files bound place (carries.Whole u) packet_id says e = refl
+untuned programme cast files bound place (carries.Fragment u k) packet_id says e = refl
+untuned programme cast files bound place (carries.Group f c) packet_id says e = refl
+untuned programme cast files bound place (carries.Parameters s) packet_id says e = absurd cc
+untuned programme cast files bound place (carries.Table s) packet_id says e = untuned-message bound place 0 packet_id part.Whole _ (omega arith) says.0 (whole-untuned bound place _ says.1 says.2)
+untuned programme cast files bound place (carries.TablePart s k) packet_id says e =
+    let count : ℕ = (table_copy cast (copy_place cast.copies s)).count in
     untuned-message bound place (left k count) packet_id (role k count) _ (small-left k count) says (part-untuned bound place (left k count) (role k count) _ (no-part k count))
 
 -- ---- what units and buffer messages say
 
-pub silent : (programme : Programme) (files : ℕ → List ℕ) (timescale : ℕ) (c : Carries) (packet_id : ℕ) (held : List Heard) (h : Heard) → Says programme files c packet_id → has_table c ≡ false
-    → findings_by timescale programme.params held h (payload_carried (cast_of programme) (contents_sent programme files) c) ≡ []
+pub silent : (programme : Programme) (cast : Cast) (files : ℕ → List ℕ) (timescale : ℕ) (c : Carries) (packet_id : ℕ) (held : List Heard) (h : Heard) → Says programme files c packet_id → has_table c ≡ false
+    → findings_by timescale programme.params held h (payload_carried cast (contents_sent programme files) c) ≡ []
 unfolding payload_carried findings_from
-silent programme files timescale (carries.Whole u) packet_id held h says e = refl
-silent programme files timescale (carries.Fragment u k) packet_id held h says e = refl
-silent programme files timescale (carries.Group f c) packet_id held h says e = refl
-silent programme files timescale (carries.Table s) packet_id held h says e = absurd cc
-silent programme files timescale (carries.TablePart s k) packet_id held h says e = absurd cc
-silent programme files timescale (carries.Parameters s) packet_id held h says e =
+silent programme cast files timescale (carries.Whole u) packet_id held h says e = refl
+silent programme cast files timescale (carries.Fragment u k) packet_id held h says e = refl
+silent programme cast files timescale (carries.Group f c) packet_id held h says e = refl
+silent programme cast files timescale (carries.Table s) packet_id held h says e = absurd cc
+silent programme cast files timescale (carries.TablePart s k) packet_id held h says e = absurd cc
+silent programme cast files timescale (carries.Parameters s) packet_id held h says e =
     ap (λ (fs : List Finding). fs ++ []) (says.1 timescale)
 
 pub none-said : (now : ℕ) (live : List Entry) → notes_of now live [] ≡ []
 unfolding notes_of
 none-said now live = refl
 
-pub said-nothing : (config : Config) (programme : Programme) (files : ℕ → List ℕ) (older : List Heard) (h : HeardAt) (c : Carries) (packet_id : ℕ) → Says programme files c packet_id → has_table c ≡ false
-    → (heard_as h.packet).payload ≡ payload_carried (cast_of programme) (contents_sent programme files) c → said_by config programme.params older h ≡ []
-said-nothing config programme files older h c packet_id says e same =
+pub said-nothing : (config : Config) (programme : Programme) (cast : Cast) (files : ℕ → List ℕ) (older : List Heard) (h : HeardAt) (c : Carries) (packet_id : ℕ) → Says programme files c packet_id → has_table c ≡ false
+    → (heard_as h.packet).payload ≡ payload_carried cast (contents_sent programme files) c → said_by config programme.params older h ≡ []
+said-nothing config programme cast files older h c packet_id says e same =
     let held : List Heard = kept_by config programme.params (heard_as h.packet ∷ older) in
     let found : findings_by config.timescale programme.params held (heard_as h.packet) (heard_as h.packet).payload ≡ [] =
-    ap (findings_by config.timescale programme.params held (heard_as h.packet)) same ∙ silent programme files config.timescale c packet_id held (heard_as h.packet) says e in
+    ap (findings_by config.timescale programme.params held (heard_as h.packet)) same ∙ silent programme cast files config.timescale c packet_id held (heard_as h.packet) says e in
     ap (λ (fs : List Finding). at_place (payload_place h) (notes_of (clock_of (heard_as h.packet ∷ older)) (live_of config programme.params (heard_as h.packet) older) fs)) found
     ∙ ap (at_place (payload_place h)) (none-said (clock_of (heard_as h.packet ∷ older)) (live_of config programme.params (heard_as h.packet) older))
 

@@ -3,7 +3,6 @@ use Rattle.mmt_headline.proofs.Sound.{casts-carry, sound}
 use Rattle.std.proofs.Common.{◌≡◌, ◌⊎◌, inl, inr, ℕ, ◌%◌, ◌≤◌, Bool, true, false, ◌||◌, ◌==◌, cond, List, [], ◌∷◌, map, get_or, Option, Some, None, refl, sym, ap, subst, ◌∙◌}
 use Rattle.std.specs.Prelude.{is_some}
 use Rattle.std.specs.List.{AllByRecursion}
-use Rattle.mmt_cast.specs.Casting.{cast_of}
 use Rattle.mmt_delivery.specs.Laws.{Delivers, IsReceiver, out_end, start_heard}
 use Rattle.mmt_model.specs.Admission.{has_parameters}
 use Rattle.mmt_model.specs.Carrying.{Contents, IsCastOf, broadcast_of, packets_of}
@@ -25,6 +24,8 @@ use Rattle.mmt_headline.proofs.Joining.{none-out, none-units, reads-alike, sessi
 use Rattle.mmt_headline.proofs.Sessions.{sessions-alike}
 use Rattle.mmt_headline.specs.Heard.{DeliveryIs}
 use Rattle.mmt_headline.proofs.Delivered.{deliveries-heard}
+use Rattle.mmt_pace.proofs.Alike.{params-alike}
+use Rattle.mmt_pace.specs.Recast.{IsItsCast}
 use Rattle.mmt_sent.specs.Stream.{addressing_of, contents_sent, packet_sent, stream_of}
 use Rattle.mmt_model.specs.Received.{expected_in, tuned_places, tunes_at}
 use Rattle.mmt_headline.specs.Programmes.{IsSendable, ProgrammesAreReceived}
@@ -48,29 +49,29 @@ each-from-heard P full_every (d ∷ ds) h = go ((full_every == 0) || (d % full_e
     go false later = later
 
 -- what each place of a delivery has
-abbrev pub Tunes : Programme → (ℕ → List ℕ) → ℕ → ℕ → Type 0
-Tunes programme files bound n =
-    values_with None bound (heard_of (packets_of (cast_of programme) (contents_sent programme files)) n) ≡ cond (has_parameters (get_or (cast_of programme).packets n no_packet).carries) (Some programme.params) None
+abbrev pub Tunes : Programme → Cast → (ℕ → List ℕ) → ℕ → ℕ → Type 0
+Tunes programme cast files bound n =
+    values_with None bound (heard_of (packets_of cast (contents_sent programme files)) n) ≡ cond (has_parameters (get_or cast.packets n no_packet).carries) (Some programme.params) None
 
-pub all-tune : (programme : Programme) (files : ℕ → List ℕ) (bound : ℕ) → IsSendable programme files → programme.params.bound ≤ bound → (ds : List ℕ) → AreOf (cast_of programme).packets ds → AllByRecursion (Tunes programme files bound) ds
-all-tune programme files bound ok le [] of = tt
-all-tune programme files bound ok le (d ∷ ds) of = (casts-tune programme files bound ok le d of.0, all-tune programme files bound ok le ds of.1)
+pub all-tune : (programme : Programme) (cast : Cast) (files : ℕ → List ℕ) (bound : ℕ) → IsSendable programme cast files → programme.params.bound ≤ bound → (ds : List ℕ) → AreOf cast.packets ds → AllByRecursion (Tunes programme cast files bound) ds
+all-tune programme cast files bound ok le [] of = tt
+all-tune programme cast files bound ok le (d ∷ ds) of = (casts-tune programme cast files bound ok le d of.0, all-tune programme cast files bound ok le ds of.1)
 
 some-is : (b : Bool) (values : Params) → is_some (cond b (Some values) None) ≡ b
 some-is true values = refl
 some-is false values = refl
 
-tests-alike : (programme : Programme) (files : ℕ → List ℕ) (bound : ℕ) (ds : List ℕ) → AllByRecursion (Tunes programme files bound) ds
-    → AllByRecursion (λ n. tunes_by bound (heard_of (packets_of (cast_of programme) (contents_sent programme files)) n) ≡ has_parameters (get_or (cast_of programme).packets n no_packet).carries) ds
-tests-alike programme files bound [] h = tt
-tests-alike programme files bound (d ∷ ds) h = (ap is_some h.0 ∙ some-is (has_parameters (get_or (cast_of programme).packets d no_packet).carries) programme.params, tests-alike programme files bound ds h.1)
+tests-alike : (programme : Programme) (cast : Cast) (files : ℕ → List ℕ) (bound : ℕ) (ds : List ℕ) → AllByRecursion (Tunes programme cast files bound) ds
+    → AllByRecursion (λ n. tunes_by bound (heard_of (packets_of cast (contents_sent programme files)) n) ≡ has_parameters (get_or cast.packets n no_packet).carries) ds
+tests-alike programme cast files bound [] h = tt
+tests-alike programme cast files bound (d ∷ ds) h = (ap is_some h.0 ∙ some-is (has_parameters (get_or cast.packets d no_packet).carries) programme.params, tests-alike programme cast files bound ds h.1)
 
-pub places-alike : (programme : Programme) (files : ℕ → List ℕ) (bound : ℕ) → IsSendable programme files → programme.params.bound ≤ bound → (delivery : List ℕ) → AreOf (cast_of programme).packets delivery
-    → tuned_by programme.full_every (λ n. tunes_by bound (heard_of (packets_of (cast_of programme) (contents_sent programme files)) n)) delivery ≡ tuned_places (cast_of programme) programme.full_every delivery
+pub places-alike : (programme : Programme) (cast : Cast) (files : ℕ → List ℕ) (bound : ℕ) → IsSendable programme cast files → programme.params.bound ≤ bound → (delivery : List ℕ) → AreOf cast.packets delivery
+    → tuned_by programme.full_every (λ n. tunes_by bound (heard_of (packets_of cast (contents_sent programme files)) n)) delivery ≡ tuned_places cast programme.full_every delivery
 unfolding tuned_places tunes_at
-places-alike programme files bound ok le delivery of =
-    same-first (λ n. tunes_by bound (heard_of (packets_of (cast_of programme) (contents_sent programme files)) n)) (λ n. has_parameters (get_or (cast_of programme).packets n no_packet).carries) (from_heard programme.full_every delivery)
-    (tests-alike programme files bound (from_heard programme.full_every delivery) (each-from-heard (Tunes programme files bound) programme.full_every delivery (all-tune programme files bound ok le delivery of)))
+places-alike programme cast files bound ok le delivery of =
+    same-first (λ n. tunes_by bound (heard_of (packets_of cast (contents_sent programme files)) n)) (λ n. has_parameters (get_or cast.packets n no_packet).carries) (from_heard programme.full_every delivery)
+    (tests-alike programme cast files bound (from_heard programme.full_every delivery) (each-from-heard (Tunes programme cast files bound) programme.full_every delivery (all-tune programme cast files bound ok le delivery of)))
 
 -- ---- the values of a session
 
@@ -79,15 +80,15 @@ abbrev pub first_values : ℕ → List Heard → Option Params
 first_values bound [] = None
 first_values bound (h ∷ hs) = values_with None bound h
 
-pub params-first : (programme : Programme) (files : ℕ → List ℕ) (bound : ℕ) (ns : List ℕ) → AllByRecursion (Tunes programme files bound) ns
-    → (let hs = from_first (tunes_by bound) (map (heard_of (packets_of (cast_of programme) (contents_sent programme files))) ns) in (hs ≡ []) ⊎ (first_values bound hs ≡ Some programme.params))
+pub params-first : (programme : Programme) (cast : Cast) (files : ℕ → List ℕ) (bound : ℕ) (ns : List ℕ) → AllByRecursion (Tunes programme cast files bound) ns
+    → (let hs = from_first (tunes_by bound) (map (heard_of (packets_of cast (contents_sent programme files))) ns) in (hs ≡ []) ⊎ (first_values bound hs ≡ Some programme.params))
 unfolding from_first
-params-first programme files bound [] t = inl refl
-params-first programme files bound (n ∷ ns) t = go (values_with None bound (heard_of (packets_of (cast_of programme) (contents_sent programme files)) n)) refl (has_parameters (get_or (cast_of programme).packets n no_packet).carries) refl (params-first programme files bound ns t.1)
+params-first programme cast files bound [] t = inl refl
+params-first programme cast files bound (n ∷ ns) t = go (values_with None bound (heard_of (packets_of cast (contents_sent programme files)) n)) refl (has_parameters (get_or cast.packets n no_packet).carries) refl (params-first programme cast files bound ns t.1)
   where
-    go : (o : Option Params) → values_with None bound (heard_of (packets_of (cast_of programme) (contents_sent programme files)) n) ≡ o → (b : Bool) → has_parameters (get_or (cast_of programme).packets n no_packet).carries ≡ b
-        → (let hs = from_first (tunes_by bound) (map (heard_of (packets_of (cast_of programme) (contents_sent programme files))) ns) in (hs ≡ []) ⊎ (first_values bound hs ≡ Some programme.params))
-        → (let hs = cond (is_some o) (heard_of (packets_of (cast_of programme) (contents_sent programme files)) n ∷ map (heard_of (packets_of (cast_of programme) (contents_sent programme files))) ns) (from_first (tunes_by bound) (map (heard_of (packets_of (cast_of programme) (contents_sent programme files))) ns)) in
+    go : (o : Option Params) → values_with None bound (heard_of (packets_of cast (contents_sent programme files)) n) ≡ o → (b : Bool) → has_parameters (get_or cast.packets n no_packet).carries ≡ b
+        → (let hs = from_first (tunes_by bound) (map (heard_of (packets_of cast (contents_sent programme files))) ns) in (hs ≡ []) ⊎ (first_values bound hs ≡ Some programme.params))
+        → (let hs = cond (is_some o) (heard_of (packets_of cast (contents_sent programme files)) n ∷ map (heard_of (packets_of cast (contents_sent programme files))) ns) (from_first (tunes_by bound) (map (heard_of (packets_of cast (contents_sent programme files))) ns)) in
         (hs ≡ []) ⊎ (first_values bound hs ≡ Some programme.params))
     go None e b is later = later
     go (Some values) e true is later = inr (t.0 ∙ ap (λ (b : Bool). cond b (Some programme.params) None) is)
@@ -111,33 +112,30 @@ same-out config values o hs (inr e) = ap (λ (x : Option Params). out_end (readi
 
 -- ---- by the theorem
 
-pub is-receiver : (config : Config) (programme : Programme) → programme.params.bound ≤ config.bound → IsReceiver (cast_of programme).params (rules_by config programme.params)
-unfolding cast_of
-is-receiver config programme le = record { window = refl; delay = refl; bound = le }
+pub params-of : (programme : Programme) (cast : Cast) → IsItsCast programme cast → cast.params ≡ programme.params
+params-of programme cast its = params-alike programme cast its
 
-pub params-of : (programme : Programme) → (cast_of programme).params ≡ programme.params
-unfolding cast_of
-params-of programme = refl
+pub is-receiver : (config : Config) (programme : Programme) (cast : Cast) → IsItsCast programme cast → programme.params.bound ≤ config.bound → IsReceiver cast.params (rules_by config programme.params)
+is-receiver config programme cast its le = subst (λ (p : Params). IsReceiver p (rules_by config programme.params)) (sym (params-of programme cast its)) (record { window = refl; delay = refl; bound = le })
 
 pub programmes-received : Delivers → ProgrammesAreReceived
 unfolding stream_of packet_sent expected_in
-programmes-received theorem config programme files delivery ps ok r of near same =
-    let cast : Cast = cast_of programme in
+programmes-received theorem config programme cast files delivery ps ok r of near same =
     let contents : Contents = contents_sent programme files in
     let k : Params = rules_by config programme.params in
     let names = names_in config.timescale in
-    let heard : DeliveryIs (addressing_of programme) cast contents config.flow delivery ps = deliveries-heard (addressing_of programme) cast contents config.flow delivery ps (sound programme files ok).can.address r.flow (casts-sent programme files ok) of same in
+    let heard : DeliveryIs (addressing_of programme) cast contents config.flow delivery ps = deliveries-heard (addressing_of programme) cast contents config.flow delivery ps (sound programme cast files ok).can.address r.flow (casts-sent programme cast files ok) of same in
     let hs : List Heard = from_first (tunes_by config.bound) (map (heard_of (packets_of cast contents)) (from_heard programme.full_every delivery)) in
     let is : session config heard.packets ≡ hs = session-of config heard.packets (map (heard_of (packets_of cast contents)) (from_heard programme.full_every delivery)) r.assumed heard.places in
     let alike : SessionIs config heard.packets = sessions-alike config heard.packets in
     let values : values_of config ps ≡ first_values config.bound hs = ap (tuned config) heard.stream ∙ alike.values ∙ ap (values_first config) is ∙ first-alike config hs r.assumed in
-    let first = params-first programme files config.bound (from_heard programme.full_every delivery) (each-from-heard (Tunes programme files config.bound) programme.full_every delivery (all-tune programme files config.bound ok r.bound delivery of)) in
-    let places = places-alike programme files config.bound ok r.bound delivery of in
-    let right : IsCastOf cast contents names = casts-carry config.timescale programme files ok in
+    let first = params-first programme cast files config.bound (from_heard programme.full_every delivery) (each-from-heard (Tunes programme cast files config.bound) programme.full_every delivery (all-tune programme cast files config.bound ok r.bound delivery of)) in
+    let places = places-alike programme cast files config.bound ok r.bound delivery of in
+    let right : IsCastOf cast contents names = casts-carry config.timescale programme cast files ok in
     units-alike config ps heard.packets heard.stream
     ∙ ap (out_end (reading_by config) (rules_by config (values_or (values_of config ps)))) is
     ∙ ap (λ (o : Option Params). out_end (reading_by config) (rules_by config (values_or o)) hs) values
     ∙ same-out config programme.params (first_values config.bound hs) hs first
     ∙ ap (λ (g : Reading). out_end g k hs) (reads-alike config cast contents r.base)
-    ∙ theorem names cast contents k ok.admitted right (is-receiver config programme r.bound) programme.full_every (tunes_by config.bound) delivery of (subst (NearDelivery cast.packets) (sym places) near)
+    ∙ theorem names cast contents k ok.admitted right (is-receiver config programme cast ok.of r.bound) programme.full_every (tunes_by config.bound) delivery of (subst (NearDelivery cast.packets) (sym places) near)
     ∙ ap (λ (ns : List ℕ). expected (broadcast_of cast contents) cast.params.delay (newest_first ns)) places

@@ -1,6 +1,7 @@
 -- Each packet of the cast of a sendable programme is sent as the cast says.
-use Rattle.mmt_headline.proofs.Sound.{CanBeSent, UnitIsSound, messages-sent, sound}
-use Rattle.std.proofs.Common.{◌≡◌, ℕ, ◌+◌, ◌-◌, ◌*◌, ◌<◌, ◌≤◌, ◌^◌, Bool, true, false, ◌==◌, cond, min, List, map, length, arith, refl, sym, ap, subst, ◌∙◌}
+use Rattle.mmt_headline.proofs.Alike.{written-alike}
+use Rattle.mmt_headline.proofs.Sound.{CanBeSent, IsPlanned, UnitIsSound, planned, planned-messages, planned-sound}
+use Rattle.std.proofs.Common.{◌≡◌, ℕ, ◌+◌, ◌-◌, ◌*◌, ◌<◌, ◌≤◌, ◌^◌, Bool, true, false, ◌==◌, cond, min, List, get_or, map, length, arith, refl, sym, ap, subst, ◌∙◌}
 use Rattle.std.specs.List.{AllByRecursion, sum_by}
 use Rattle.std.proofs.lemmas.Bool.{eqb-true}
 use Rattle.mmt_cast.specs.Casting.{cast_of, with_number}
@@ -25,10 +26,11 @@ use Rattle.mmt_model.specs.declared.casts.Sent.{Sent}
 use Rattle.mmt_model.specs.declared.programmes.Programme.{Programme}
 use Rattle.mmt_mpu.specs.Spelling.{head_length}
 use Rattle.mmt_naming.specs.Findings.{names_in}
+use Rattle.mmt_pace.proofs.Alike.{each-alike}
 use Rattle.mmt_sent.specs.Payloads.{CanBeWritten, Written, left, length_of, written}
 use Rattle.mmt_headline.specs.Heard.{HasItsId}
 use Rattle.mmt_sent.specs.Stream.{contents_sent}
-use Rattle.mmt_headline.specs.Programmes.{CastsAreSent, IsSendable}
+use Rattle.mmt_headline.specs.Programmes.{CastsAreSent}
 use Rattle.mmt_headline.proofs.Units.{own_size, units_from, data-long, group-can, group-data, group-heads, group-long, group-sizes, head-fits, head-small, header-same, one-can, part-long, size_of, sound-at, timed-is}
 use Rattle.mmt_model.specs.declared.casts.Carries.TheVariants as carries
 use Rattle.mmt_model.specs.declared.programmes.Signal.TheVariants as signals
@@ -187,38 +189,41 @@ group-goes programme files f c x bytes can is =
 
 -- ---- each sending
 
-is-message : (programme : Programme) (files : ℕ → List ℕ) → IsSendable programme files → (s : ℕ) → s < length programme.signals → IsMessage programme (names_in 1) (signal_at programme s) (message_bytes programme s)
-is-message programme files ok s l = messages-sent 1 programme files ok s l
+is-message : (programme : Programme) (files : ℕ → List ℕ) → IsPlanned programme files → (s : ℕ) → s < length programme.signals → IsMessage programme (names_in 1) (signal_at programme s) (message_bytes programme s)
+is-message programme files ok s l = planned-messages 1 programme files ok s l
 
-goes : (programme : Programme) (files : ℕ → List ℕ) → IsSendable programme files → (x : Sending) (k : ℕ) → IsRightSending programme x → k < packet_count programme x
+goes : (programme : Programme) (files : ℕ → List ℕ) → IsPlanned programme files → (x : Sending) (k : ℕ) → IsRightSending programme x → k < packet_count programme x
     → GoesAs programme files (carried programme x k) (id_of x) (payload_length programme x k)
 unfolding carried id_of payload_length packet_count
 goes programme files ok (Sending.Parameters s at) k is l =
     let m : IsMessage programme (names_in 1) (signals.Parameters (record { 0 = at })) (message_bytes programme s) = subst (λ signal. IsMessage programme (names_in 1) signal (message_bytes programme s)) is.1 (is-message programme files ok s is.0) in
-    parameters-go programme files s (sound programme files ok).right.limit m.0
+    parameters-go programme files s (planned-sound programme files ok).right.limit m.0
 goes programme files ok (Sending.Table s at bytes) k is l =
     let m : IsMessage programme (names_in 1) (signals.Table (record { 0 = at }) is.1) (message_bytes programme s) = subst (λ signal. IsMessage programme (names_in 1) signal (message_bytes programme s)) is.2 (is-message programme files ok s is.0) in
-    table-goes programme files s k bytes (sound programme files ok).right.limit (sound programme files ok).can.limit (m.0 ∙ sym is.3) l
+    table-goes programme files s k bytes (planned-sound programme files ok).right.limit (planned-sound programme files ok).can.limit (m.0 ∙ sym is.3) l
 goes programme files ok (Sending.Alone u x) k is l =
     subst (λ (y : PlacedUnit). k < parts y.value.length programme.limit → GoesAs programme files (cond (parts y.value.length programme.limit == 1) (carries.Whole u) (carries.Fragment u k)) y.in_mpu.in_asset.packet_id (8 + header_length y + part_length y.value.length programme.limit k))
-    is.1 (λ below. unit-goes programme files u k (sound programme files ok).can (sound programme files ok).right.limit is.0 below) l
-goes programme files ok (Sending.Group f c x bytes) k is l = group-goes programme files f c x bytes (sound programme files ok).can is
+    is.1 (λ below. unit-goes programme files u k (planned-sound programme files ok).can (planned-sound programme files ok).right.limit is.0 below) l
+goes programme files ok (Sending.Group f c x bytes) k is l = group-goes programme files f c x bytes (planned-sound programme files ok).can is
 
 -- ---- each packet
 
 abbrev IsSentAs : Programme → (ℕ → List ℕ) → Sent → Type 0
 IsSentAs programme files p = GoesAs programme files p.carries p.packet_id p.length × (p.number < 2 ^ 32)
 
-each-packet : (programme : Programme) (files : ℕ → List ℕ) → IsSendable programme files → AllByRecursion (IsSentAs programme files) (cast_of programme).packets
+each-packet : (programme : Programme) (files : ℕ → List ℕ) → IsPlanned programme files → AllByRecursion (IsSentAs programme files) (cast_of programme).packets
 unfolding with_number packet_of
 each-packet programme files ok =
     each-sent programme (IsSentAs programme files)
     (λ a b x k e below. (
       goes programme files ok x k (right-sending programme a b x e) below,
-      omega (arith, numbers-fit programme a b x e, few-packets programme ok.cast, below),
+      omega (arith, numbers-fit programme a b x e, few-packets programme ok.none, below),
     ))
 
 pub casts-sent : CastsAreSent
-casts-sent programme files ok n l =
-    let is = each-at (IsSentAs programme files) (cast_of programme).packets n no_packet (each-packet programme files ok) l in
-    record { can = is.0.can; id = is.0.id; number = is.1; long = is.0.long; short = is.0.short }
+casts-sent programme cast files ok n l =
+    let all : AllByRecursion (IsSentAs programme files) cast.packets = each-alike programme cast ok.of (IsSentAs programme files) (λ tick p h. h) (each-packet programme files (planned programme cast files ok)) in
+    let p : Sent = get_or cast.packets n no_packet in
+    let is = each-at (IsSentAs programme files) cast.packets n no_packet all l in
+    let goes : Goes (written cast (contents_sent programme files) p.carries) p.packet_id p.length = subst (λ (w : Written). Goes w p.packet_id p.length) (sym (written-alike programme cast (contents_sent programme files) ok.of p.carries)) is.0 in
+    record { can = goes.can; id = goes.id; number = is.1; long = goes.long; short = goes.short }

@@ -6,9 +6,7 @@ use Rattle.std.specs.List.{AllByRecursion, flat_map, list_all}
 use Rattle.std.proofs.lemmas.Bool.{and_from, eq-eqb, le-leb, ne_eqb}
 use Rattle.std.proofs.lemmas.List.{append-nil}
 use Rattle.mmt_base.specs.Ticks.{low}
-use Rattle.mmt_cast.specs.Casting.{cast_of}
 use Rattle.mmt_cast.specs.Right.{IsMessage, signal_at}
-use Rattle.mmt_cast.proofs.Theorem.{cast-right}
 use Rattle.mmt_delivery.specs.Laws.{IsReceiver}
 use Rattle.mmt_delivery.specs.Tables.{IsAmong, IsOfCopy, MessagesAreSent, NamesAreLearned}
 use Rattle.mmt_delivery.proofs.Carried.{signal-is}
@@ -30,6 +28,7 @@ use Rattle.mmt_model.specs.declared.programmes.Programme.{Programme}
 use Rattle.mmt_model.specs.declared.programmes.Signal.{Signal}
 use Rattle.mmt_model.proofs.Newest.{newest_more}
 use Rattle.mmt_model.proofs.Sessions.{entries_next}
+use Rattle.mmt_pace.proofs.Delivered.{its-right}
 use Rattle.mmt_naming.specs.Findings.{Finding, Naming, Remark, findings_by, findings_from, findings_in, findings_of_joined, names_among, names_in, notes_of}
 use Rattle.mmt_naming.proofs.Names.{names_of_packet}
 use Rattle.mmt_recv.specs.Session.{kept_by, live_of}
@@ -78,8 +77,8 @@ as-names (Naming (suc m) e ∷ fs) h = absurd (true≢false (sym h ∙ ap (λ (b
 
 -- ---- the messages of a programme
 
-told-message : (timescale : ℕ) (programme : Programme) (files : ℕ → List ℕ) (s : ℕ) → IsSendable programme files → s < length programme.signals → are_names (findings_in timescale programme.params 0 (message_bytes programme s)) ≡ true
-told-message timescale programme files s ok l = ap are_names ((found-sent timescale programme files ok s l).findings 0) ∙ names-alone (names_in timescale (message_bytes programme s))
+told-message : (timescale : ℕ) (programme : Programme) (cast : Cast) (files : ℕ → List ℕ) (s : ℕ) → IsSendable programme cast files → s < length programme.signals → are_names (findings_in timescale programme.params 0 (message_bytes programme s)) ≡ true
+told-message timescale programme cast files s ok l = ap are_names ((found-sent timescale programme cast files ok s l).findings 0) ∙ names-alone (names_in timescale (message_bytes programme s))
 
 -- ---- each table copy of its cast: were there anything but names in it, it would have one name more by these names than by the right ones
 
@@ -99,32 +98,32 @@ not-marked true es e = refl
 not-marked false es e = absurd (let l : suc (length es) ≡ length es = ap length e in omega (arith, l))
 
 -- the bytes of a table copy
-abbrev bytes_of_copy : Programme → (ℕ → List ℕ) → ℕ → List ℕ
-bytes_of_copy programme files c = joined (map ((contents_sent programme files).message_part (table_copy (cast_of programme) c).signal) (numbers 0 (table_copy (cast_of programme) c).count))
+abbrev bytes_of_copy : Programme → Cast → (ℕ → List ℕ) → ℕ → List ℕ
+bytes_of_copy programme cast files c = joined (map ((contents_sent programme files).message_part (table_copy cast c).signal) (numbers 0 (table_copy cast c).count))
 
-copy-told : (timescale : ℕ) (programme : Programme) (files : ℕ → List ℕ) (c : ℕ) → IsSendable programme files → c < length (cast_of programme).copies → are_names (findings_in timescale programme.params 0 (bytes_of_copy programme files c)) ≡ true
-copy-told timescale programme files c ok l =
-    let right : IsCastOf (cast_of programme) (contents_sent programme files) (names_in timescale) = casts-carry timescale programme files ok in
-    let other : IsCastOf (cast_of programme) (contents_sent programme files) (marked timescale programme.params) =
-    cast-right programme files (message_bytes programme) (marked timescale programme.params) (sound programme files ok).right
-    (λ s ls. marked-message timescale programme (signal_at programme s) (message_bytes programme s) (told-message timescale programme files s ok ls) (messages-sent timescale programme files ok s ls)) ok.cast in
-    not-marked _ (names_in timescale (bytes_of_copy programme files c)) (sym (other.copy c l).names ∙ (right.copy c l).names)
+copy-told : (timescale : ℕ) (programme : Programme) (cast : Cast) (files : ℕ → List ℕ) (c : ℕ) → IsSendable programme cast files → c < length cast.copies → are_names (findings_in timescale programme.params 0 (bytes_of_copy programme cast files c)) ≡ true
+copy-told timescale programme cast files c ok l =
+    let right : IsCastOf cast (contents_sent programme files) (names_in timescale) = casts-carry timescale programme cast files ok in
+    let other : IsCastOf cast (contents_sent programme files) (marked timescale programme.params) =
+    its-right programme cast files (message_bytes programme) (marked timescale programme.params) ok.of (sound programme cast files ok).right
+    (λ s ls. marked-message timescale programme (signal_at programme s) (message_bytes programme s) (told-message timescale programme cast files s ok ls) (messages-sent timescale programme cast files ok s ls)) ok.none in
+    not-marked _ (names_in timescale (bytes_of_copy programme cast files c)) (sym (other.copy c l).names ∙ (right.copy c l).names)
 
 -- ---- a message in parts
 
-joined-told : (timescale : ℕ) (programme : Programme) (files : ℕ → List ℕ) (m : Message) → IsSendable programme files → IsOfCopy (cast_of programme) (contents_sent programme files) m → are_names (findings_of_joined timescale programme.params m) ≡ true
-joined-told timescale programme files m ok is =
-    let short : length m.bytes ≤ 131072 = omega (arith, ((casts-carry timescale programme files ok).copy is.0 is.1).short, ap length is.2) in
-    let told : are_names (findings_in timescale programme.params 0 m.bytes) ≡ true = ap (λ (b : List ℕ). are_names (findings_in timescale programme.params 0 b)) is.2 ∙ copy-told timescale programme files is.0 ok is.1 in
+joined-told : (timescale : ℕ) (programme : Programme) (cast : Cast) (files : ℕ → List ℕ) (m : Message) → IsSendable programme cast files → IsOfCopy cast (contents_sent programme files) m → are_names (findings_of_joined timescale programme.params m) ≡ true
+joined-told timescale programme cast files m ok is =
+    let short : length m.bytes ≤ 131072 = omega (arith, ((casts-carry timescale programme cast files ok).copy is.0 is.1).short, ap length is.2) in
+    let told : are_names (findings_in timescale programme.params 0 m.bytes) ≡ true = ap (λ (b : List ℕ). are_names (findings_in timescale programme.params 0 b)) is.2 ∙ copy-told timescale programme cast files is.0 ok is.1 in
     go (is_short m) (le-leb (length m.bytes) 131072 short) told _
   where
     go : (b : Bool) → b ≡ true → are_names (findings_in timescale programme.params 0 m.bytes) ≡ true → (rest : List Finding) → are_names (cond b (findings_in timescale programme.params 0 m.bytes) rest) ≡ true
     go true e told rest = told
     go false e told rest = absurd cc
 
-all-joined-told : (timescale : ℕ) (programme : Programme) (files : ℕ → List ℕ) (ms : List Message) → IsSendable programme files → AllByRecursion (IsOfCopy (cast_of programme) (contents_sent programme files)) ms → are_names (flat_map (findings_of_joined timescale programme.params) ms) ≡ true
-all-joined-told timescale programme files [] ok h = refl
-all-joined-told timescale programme files (m ∷ ms) ok h = both-names (findings_of_joined timescale programme.params m) (flat_map (findings_of_joined timescale programme.params) ms) (joined-told timescale programme files m ok h.0) (all-joined-told timescale programme files ms ok h.1)
+all-joined-told : (timescale : ℕ) (programme : Programme) (cast : Cast) (files : ℕ → List ℕ) (ms : List Message) → IsSendable programme cast files → AllByRecursion (IsOfCopy cast (contents_sent programme files)) ms → are_names (flat_map (findings_of_joined timescale programme.params) ms) ≡ true
+all-joined-told timescale programme cast files [] ok h = refl
+all-joined-told timescale programme cast files (m ∷ ms) ok h = both-names (findings_of_joined timescale programme.params m) (flat_map (findings_of_joined timescale programme.params) ms) (joined-told timescale programme cast files m ok h.0) (all-joined-told timescale programme cast files ms ok h.1)
 
 each-passing : {X : Type 0} (P : X → Type 0) (test : X → Bool) (xs : List X) → AllByRecursion P xs → AllByRecursion P (filter test xs)
 each-passing P test [] h = tt
@@ -156,39 +155,38 @@ each-of-some {X} {Y} P test f (x ∷ xs) h = go (test x) (each-of-some P test f 
     go false later = later
 
 -- the messages in parts of kept packets are of the cast
-abbrev AreOfCopies : Programme → (ℕ → List ℕ) → List Heard → Type 0
-AreOfCopies programme files kept = AllByRecursion (IsOfCopy (cast_of programme) (contents_sent programme files)) (flat_map (λ p. message_by kept p p.payload) kept)
+abbrev AreOfCopies : Programme → Cast → (ℕ → List ℕ) → List Heard → Type 0
+AreOfCopies programme cast files kept = AllByRecursion (IsOfCopy cast (contents_sent programme files)) (flat_map (λ p. message_by kept p p.payload) kept)
 
-parts-told : (timescale : ℕ) (programme : Programme) (files : ℕ → List ℕ) (kept : List Heard) (packet_id number : ℕ) → IsSendable programme files → AreOfCopies programme files kept
+parts-told : (timescale : ℕ) (programme : Programme) (cast : Cast) (files : ℕ → List ℕ) (kept : List Heard) (packet_id number : ℕ) → IsSendable programme cast files → AreOfCopies programme cast files kept
     → are_names (flat_map (findings_of_joined timescale programme.params) (messages_with kept packet_id number)) ≡ true
 unfolding messages_with messages_on
-parts-told timescale programme files kept packet_id number ok h =
-    let P : Message → Type 0 = IsOfCopy (cast_of programme) (contents_sent programme files) in
-    all-joined-told timescale programme files (messages_with kept packet_id number) ok
+parts-told timescale programme cast files kept packet_id number ok h =
+    let P : Message → Type 0 = IsOfCopy cast (contents_sent programme files) in
+    all-joined-told timescale programme cast files (messages_with kept packet_id number) ok
     (each-passing P (is_part number) (messages_on kept packet_id) (each-of-some P (λ (p : Heard). p.packet_id == packet_id) (λ (p : Heard). message_by kept p p.payload) kept h))
 
 -- ---- a packet with a table or a part of one
 
-payload-told : (timescale : ℕ) (programme : Programme) (files : ℕ → List ℕ) (kept : List Heard) (h : Heard) (n : ℕ) → IsSendable programme files → AreOfCopies programme files kept → n < length (cast_of programme).packets
-    → (c : Carries) → (get_or (cast_of programme).packets n no_packet).carries ≡ c → has_table c ≡ true → are_names (findings_by timescale programme.params kept h (payload_carried (cast_of programme) (contents_sent programme files) c)) ≡ true
+payload-told : (timescale : ℕ) (programme : Programme) (cast : Cast) (files : ℕ → List ℕ) (kept : List Heard) (h : Heard) (n : ℕ) → IsSendable programme cast files → AreOfCopies programme cast files kept → n < length cast.packets
+    → (c : Carries) → (get_or cast.packets n no_packet).carries ≡ c → has_table c ≡ true → are_names (findings_by timescale programme.params kept h (payload_carried cast (contents_sent programme files) c)) ≡ true
 unfolding payload_carried role findings_from numbers
-payload-told timescale programme files kept h n ok all l (carries.Whole u) is e = absurd cc
-payload-told timescale programme files kept h n ok all l (carries.Fragment u k) is e = absurd cc
-payload-told timescale programme files kept h n ok all l (carries.Group f c) is e = absurd cc
-payload-told timescale programme files kept h n ok all l (carries.Parameters s) is e = absurd cc
-payload-told timescale programme files kept h n ok all l (carries.Table s) is e =
-    let cast : Cast = cast_of programme in
+payload-told timescale programme cast files kept h n ok all l (carries.Whole u) is e = absurd cc
+payload-told timescale programme cast files kept h n ok all l (carries.Fragment u k) is e = absurd cc
+payload-told timescale programme cast files kept h n ok all l (carries.Group f c) is e = absurd cc
+payload-told timescale programme cast files kept h n ok all l (carries.Parameters s) is e = absurd cc
+payload-told timescale programme cast files kept h n ok all l (carries.Table s) is e =
     let contents : Contents = contents_sent programme files in
     let c : ℕ = copy_place cast.copies s in
-    let place = subst (IsInItsPlace cast contents (get_or cast.packets n no_packet).packet_id (get_or cast.packets n no_packet).number) is ((casts-carry timescale programme files ok).packet n l) in
-    let one : bytes_of_copy programme files c ≡ joined (map (contents.message_part s) (numbers 0 1)) =
+    let place = subst (IsInItsPlace cast contents (get_or cast.packets n no_packet).packet_id (get_or cast.packets n no_packet).number) is ((casts-carry timescale programme cast files ok).packet n l) in
+    let one : bytes_of_copy programme cast files c ≡ joined (map (contents.message_part s) (numbers 0 1)) =
     ap (λ (t : ℕ). joined (map (contents.message_part t) (numbers 0 (table_copy cast c).count))) (signal-is cast s place.0) ∙ ap (λ (m : ℕ). joined (map (contents.message_part s) (numbers 0 m))) place.3 in
-    let whole : bytes_of_copy programme files c ≡ contents.message_part s 0 = one ∙ append-nil (contents.message_part s 0) in
+    let whole : bytes_of_copy programme cast files c ≡ contents.message_part s 0 = one ∙ append-nil (contents.message_part s 0) in
     both-names (findings_in timescale programme.params 0 (contents.message_part s 0)) []
-    (ap (λ (b : List ℕ). are_names (findings_in timescale programme.params 0 b)) (sym whole) ∙ copy-told timescale programme files c ok place.0) refl
-payload-told timescale programme files kept h n ok all l (carries.TablePart s k) is e =
-    let told : are_names (flat_map (findings_of_joined timescale programme.params) (messages_with kept h.packet_id h.number)) ≡ true = parts-told timescale programme files kept h.packet_id h.number ok all in
-    go (k == 0) (k + 1 == (table_copy (cast_of programme) (copy_place (cast_of programme).copies s)).count) told
+    (ap (λ (b : List ℕ). are_names (findings_in timescale programme.params 0 b)) (sym whole) ∙ copy-told timescale programme cast files c ok place.0) refl
+payload-told timescale programme cast files kept h n ok all l (carries.TablePart s k) is e =
+    let told : are_names (flat_map (findings_of_joined timescale programme.params) (messages_with kept h.packet_id h.number)) ≡ true = parts-told timescale programme cast files kept h.packet_id h.number ok all in
+    go (k == 0) (k + 1 == (table_copy cast (copy_place cast.copies s)).count) told
   where
     go : (a b : Bool) → are_names (flat_map (findings_of_joined timescale programme.params) (messages_with kept h.packet_id h.number)) ≡ true
         → are_names (findings_by timescale programme.params kept h (Payload.Signalling (cond a part.First (cond b part.Last part.Middle)) ((contents_sent programme files).message_part s k ∷ []))) ≡ true
@@ -245,29 +243,27 @@ learned-newest law names cast contents k ok right receiver places (d ∷ olds) o
     λ stored. here (sym (outcome-is k h (map (heard_of packets) olds)) ∙ stored)
 
 -- what is kept of a delivery has only messages in parts that are of the cast
-kept-told : (law : MessagesAreSent) (config : Config) (programme : Programme) (files : ℕ → List ℕ) (places : List ℕ) (hs : List Heard) → IsSendable programme files → Receives config programme
-    → AreOf (cast_of programme).packets places → NearDelivery (cast_of programme).packets places → hs ≡ map (heard_of (packets_of (cast_of programme) (contents_sent programme files))) (newest_first places)
-    → AreOfCopies programme files (kept_by config programme.params hs)
-kept-told law config programme files places hs ok r of near is =
-    let cast : Cast = cast_of programme in
+kept-told : (law : MessagesAreSent) (config : Config) (programme : Programme) (cast : Cast) (files : ℕ → List ℕ) (places : List ℕ) (hs : List Heard) → IsSendable programme cast files → Receives config programme
+    → AreOf cast.packets places → NearDelivery cast.packets places → hs ≡ map (heard_of (packets_of cast (contents_sent programme files))) (newest_first places)
+    → AreOfCopies programme cast files (kept_by config programme.params hs)
+kept-told law config programme cast files places hs ok r of near is =
     let contents : Contents = contents_sent programme files in
     let packets : SentPackets = packets_of cast contents in
     let k : Params = rules_by config programme.params in
-    let first : AreOfCopies programme files (kept k (low (start_of cast.packets places)) (map (heard_of packets) (newest_first places))) =
-    law (names_in config.timescale) cast contents k ok.admitted (casts-carry config.timescale programme files ok) (is-receiver config programme r.bound) places [] (subst (AreOf cast.packets) (sym (append-nil places)) of) (subst (NearDelivery cast.packets) (sym (append-nil places)) near) in
-    subst (λ (xs : List Heard). AreOfCopies programme files (kept k (start_of_session xs) xs)) (sym is)
-    (subst (λ (t : ℕ). AreOfCopies programme files (kept k t (map (heard_of packets) (newest_first places)))) (sym (start-turned packets places)) first)
+    let first : AreOfCopies programme cast files (kept k (low (start_of cast.packets places)) (map (heard_of packets) (newest_first places))) =
+    law (names_in config.timescale) cast contents k ok.admitted (casts-carry config.timescale programme cast files ok) (is-receiver config programme cast ok.of r.bound) places [] (subst (AreOf cast.packets) (sym (append-nil places)) of) (subst (NearDelivery cast.packets) (sym (append-nil places)) near) in
+    subst (λ (xs : List Heard). AreOfCopies programme cast files (kept k (start_of_session xs) xs)) (sym is)
+    (subst (λ (t : ℕ). AreOfCopies programme cast files (kept k t (map (heard_of packets) (newest_first places)))) (sym (start-turned packets places)) first)
 
 -- a stored packet with a table or a part of one leaves nothing to be noted
-pub table-quiet : NamesAreLearned → MessagesAreSent → (config : Config) (programme : Programme) (files : ℕ → List ℕ) (places : List ℕ) (n : ℕ) (h : Heard) (older : List Heard) → IsSendable programme files → Receives config programme
-    → AreOf (cast_of programme).packets places → NearDelivery (cast_of programme).packets places → n < length (cast_of programme).packets
-    → h ≡ heard_of (packets_of (cast_of programme) (contents_sent programme files)) n → has_table (get_or (cast_of programme).packets n no_packet).carries ≡ true
-    → h ∷ older ≡ map (heard_of (packets_of (cast_of programme) (contents_sent programme files))) (newest_first places)
+pub table-quiet : NamesAreLearned → MessagesAreSent → (config : Config) (programme : Programme) (cast : Cast) (files : ℕ → List ℕ) (places : List ℕ) (n : ℕ) (h : Heard) (older : List Heard) → IsSendable programme cast files → Receives config programme
+    → AreOf cast.packets places → NearDelivery cast.packets places → n < length cast.packets
+    → h ≡ heard_of (packets_of cast (contents_sent programme files)) n → has_table (get_or cast.packets n no_packet).carries ≡ true
+    → h ∷ older ≡ map (heard_of (packets_of cast (contents_sent programme files))) (newest_first places)
     → outcome_at (rules_by config programme.params) h older ≡ Outcome.Stored
     → notes_of (clock_of (h ∷ older)) (live_of config programme.params h older) (findings_by config.timescale programme.params (kept_by config programme.params (h ∷ older)) h h.payload) ≡ []
 unfolding heard_of names_if_stored
-table-quiet law sent config programme files places n h older ok r of near l is has all stored =
-    let cast : Cast = cast_of programme in
+table-quiet law sent config programme cast files places n h older ok r of near l is has all stored =
     let contents : Contents = contents_sent programme files in
     let packets : SentPackets = packets_of cast contents in
     let k : Params = rules_by config programme.params in
@@ -278,10 +274,10 @@ table-quiet law sent config programme files places n h older ok r of near l is h
     let payload : h.payload ≡ payload_carried cast contents (get_or cast.packets n no_packet).carries = ap (λ (x : Heard). x.payload) is in
     let told : are_names fs ≡ true =
     ap (λ (p : Payload). are_names (findings_by config.timescale programme.params kept_now h p)) payload
-    ∙ payload-told config.timescale programme files kept_now h n ok (kept-told sent config programme files places (h ∷ older) ok r of near all) l (get_or cast.packets n no_packet).carries refl has in
+    ∙ payload-told config.timescale programme cast files kept_now h n ok (kept-told sent config programme cast files places (h ∷ older) ok r of near all) l (get_or cast.packets n no_packet).carries refl has in
     let found : fs ≡ map (Naming 0) es = as-names fs told ∙ ap (map (Naming 0)) (names_of_packet config.timescale programme.params kept_now h) in
     let newest : LearnedNewest names k (h ∷ older) =
-    subst (LearnedNewest names k) (sym all) (learned-newest law names cast contents k ok.admitted (casts-carry config.timescale programme files ok) (is-receiver config programme r.bound) places (newest_first places) of near refl) in
+    subst (LearnedNewest names k) (sym all) (learned-newest law names cast contents k ok.admitted (casts-carry config.timescale programme cast files ok) (is-receiver config programme cast ok.of r.bound) places (newest_first places) of near refl) in
     let entries_are : entries (names_of names) k (start_of_session (h ∷ older)) (h ∷ older) ≡ learn (clock_of (h ∷ older)) (live_of config programme.params h older) es =
     entries_next (names_of names) k h older ∙ ap (λ (o : Outcome). learn (clock_of (h ∷ older)) (live_of config programme.params h older) (names_if_stored o es)) stored in
     nothing-left (clock_of (h ∷ older)) (live_of config programme.params h older) es fs found (subst (λ (xs : List Entry). AllByRecursion (IsAmong xs) es) entries_are (newest stored))

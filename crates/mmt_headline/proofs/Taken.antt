@@ -2,11 +2,11 @@
 use Rattle.std.proofs.Common.{◌≡◌, ◌⊎◌, inl, inr, ℕ, List, [], ◌∷◌, ◌++◌, append_assoc, refl, sym, ap, subst, ◌∙◌}
 use Rattle.std.proofs.lemmas.List.{append-nil}
 use Rattle.std.proofs.lemmas.List.Concat.{flat_map-append}
-use Rattle.mmt_cast.specs.Casting.{cast_of}
 use Rattle.mmt_io.specs.History.{Event, bytes_read}
 use Rattle.mmt_model.specs.Delivery.{NearDelivery, newest_first}
 use Rattle.mmt_model.specs.Handing.{Presentation}
 use Rattle.mmt_model.specs.Survival.{AreOf}
+use Rattle.mmt_model.specs.declared.casts.Cast.{Cast}
 use Rattle.mmt_model.specs.declared.programmes.Programme.{Programme}
 use Rattle.mmt_output.specs.Records.{record_of, records}
 use Rattle.mmt_recv.specs.Noting.{noted}
@@ -49,37 +49,37 @@ end-noted : (config : Config) (packets : List Packet) → (let m = taking config
 unfolding received
 end-noted config packets = refl
 
-pub units-are : (config : Config) (programme : Programme) (files : ℕ → List ℕ) (delivery : List ℕ) → ProgrammesAreReceived → IsSendable programme files → Receives config programme → AreOf (cast_of programme).packets delivery → NearDelivery (cast_of programme).packets (tuned_places (cast_of programme) programme.full_every delivery)
-    → all_units config (placed_of programme files delivery) ≡ expected_of programme files delivery
+pub units-are : (config : Config) (programme : Programme) (cast : Cast) (files : ℕ → List ℕ) (delivery : List ℕ) → ProgrammesAreReceived → IsSendable programme cast files → Receives config programme → AreOf cast.packets delivery → NearDelivery cast.packets (tuned_places cast programme.full_every delivery)
+    → all_units config (placed_of programme cast files delivery) ≡ expected_of programme cast files delivery
 unfolding placed_of
-units-are config programme files delivery theorem ok r of near =
-    theorem config programme files delivery (placed (newest_first (stream_of programme files delivery))) ok r of near (placed-packets (newest_first (stream_of programme files delivery)))
+units-are config programme cast files delivery theorem ok r of near =
+    theorem config programme cast files delivery (placed (newest_first (stream_of programme cast files delivery))) ok r of near (placed-packets (newest_first (stream_of programme cast files delivery)))
 
 -- all that belongs to the end
-at-end : (config : Config) (programme : Programme) (files : ℕ → List ℕ) (delivery : List ℕ) → ProgrammesAreReceived → IsSendable programme files → Receives config programme
-    → AreOf (cast_of programme).packets delivery → NearDelivery (cast_of programme).packets (tuned_places (cast_of programme) programme.full_every delivery)
-    → (let m = taking config in m.at_end (stream_of programme files delivery)) ≡ all_taken config programme files delivery
+at-end : (config : Config) (programme : Programme) (cast : Cast) (files : ℕ → List ℕ) (delivery : List ℕ) → ProgrammesAreReceived → IsSendable programme cast files → Receives config programme
+    → AreOf cast.packets delivery → NearDelivery cast.packets (tuned_places cast programme.full_every delivery)
+    → (let m = taking config in m.at_end (stream_of programme cast files delivery)) ≡ all_taken config programme cast files delivery
 unfolding placed_of
-at-end config programme files delivery theorem ok r of near =
-    let packets : List Packet = stream_of programme files delivery in
-    same_output ((taking config).at_end packets) (all_taken config programme files delivery) (end-written config packets ∙ ap records (units-are config programme files delivery theorem ok r of near)) (end-noted config packets)
+at-end config programme cast files delivery theorem ok r of near =
+    let packets : List Packet = stream_of programme cast files delivery in
+    same_output ((taking config).at_end packets) (all_taken config programme cast files delivery) (end-written config packets ∙ ap records (units-are config programme cast files delivery theorem ok r of near)) (end-noted config packets)
 
 -- ---- a run that is done
 
 pub takes : ProgrammesAreReceived → TakesDelivery
-takes theorem config programme files delivery limit old new unread ok r of near s =
-    let packets : List Packet = stream_of programme files delivery in
+takes theorem config programme cast files delivery limit old new unread ok r of near s =
+    let packets : List Packet = stream_of programme cast files delivery in
     let ends : Ends (taking config) limit end.Done s.events unread = s.ends in
     let finished = ends.1 in
     let all : joined packets ≡ bytes_read s.events = s.passed.taken ∙ ap (λ (xs : List ℕ). bytes_read s.events ++ xs) ends.3 ∙ append-nil (bytes_read s.events) in
-    let framed : Framed (bytes_read s.events) packets [] = subst (λ (xs : List ℕ). Framed xs packets []) all (streams-framed programme files delivery ok of) in
+    let framed : Framed (bytes_read s.events) packets [] = subst (λ (xs : List ℕ). Framed xs packets []) all (streams-framed programme cast files delivery ok of) in
     let same = one_framing (bytes_read s.events) ends.0 packets [] [] finished.framed framed in
     let m = taking config in
-    finished.output ∙ ap (λ (ps : List Packet). m.at_end ps) same.0 ∙ at-end config programme files delivery theorem ok r of near
+    finished.output ∙ ap (λ (ps : List Packet). m.at_end ps) same.0 ∙ at-end config programme cast files delivery theorem ok r of near
 
 -- ---- a run that ends in any way
 
--- the packets of a start of the bytes are a start of the packets
+-- the packets of a prefix of the bytes are a prefix of the packets
 start-packets : (ps qs : List Packet) (rest : List ℕ) → joined ps ++ rest ≡ joined qs → (others : List Packet) × (qs ≡ ps ++ others)
 start-packets [] qs rest e = (qs, refl)
 start-packets (p ∷ ps) [] rest e = absurd cc
@@ -88,7 +88,7 @@ start-packets (p ∷ ps) (q ∷ qs) rest e =
     let later = start-packets ps qs rest first.1 in
     (later.0, ap (λ (x : Packet). x ∷ qs) (sym first.0) ∙ ap (λ (xs : List Packet). p ∷ xs) later.1)
 
--- what went out of the packets of a front of the bytes is a start of what belongs to the end
+-- what went out of the packets of a front of the bytes is a prefix of what belongs to the end
 start-of : (config : Config) (packets read : List Packet) (got tail left : List ℕ) (went : Output) → Framed (joined packets) packets [] → Framed got read tail → joined packets ≡ got ++ left
     → (let m = taking config in IsPrefixOf went (m.so_far read) ⊎ (IsPrefixOf went (m.at_end read) × ((left ≡ []) ⊎ IsOutOfSync tail)))
     → (let m = taking config in IsPrefixOf went (m.at_end packets))
@@ -143,11 +143,11 @@ module _ (m : Meaning) (limit : ℕ) (events : List Event) (unread whole : List 
   went-out end.ReadFault (packets, tail, shown, front, within) =
       record { read = packets; got = bytes_read events; tail = tail; left = unread; framed = shown.framed; taken = taken; begun = inl (same-start (output_of events) (m.so_far packets) shown.output) }
   went-out end.WriteFault (begun, over, within) = halted begun over
-  went-out end.OutOfMemory (begun, over, within) = halted begun over
+  went-out end.OutOfMemory ((packets, tail, framed, begun), over, within) = halted (packets, tail, framed, inl begun) over
 
 pub takes-start : ProgrammesAreReceived → TakesAStart
-takes-start theorem config programme files delivery limit outcome old new unread ok r of near s =
-    let packets : List Packet = stream_of programme files delivery in
+takes-start theorem config programme cast files delivery limit outcome old new unread ok r of near s =
+    let packets : List Packet = stream_of programme cast files delivery in
     let w = went-out (taking config) limit s.events unread (joined packets) s.passed.taken outcome s.ends in
-    subst (IsPrefixOf (output_of s.events)) (at-end config programme files delivery theorem ok r of near)
-    (start-of config packets w.read w.got w.tail w.left (output_of s.events) (streams-framed programme files delivery ok of) w.framed w.taken w.begun)
+    subst (IsPrefixOf (output_of s.events)) (at-end config programme cast files delivery theorem ok r of near)
+    (start-of config packets w.read w.got w.tail w.left (output_of s.events) (streams-framed programme cast files delivery ok of) w.framed w.taken w.begun)

@@ -26,7 +26,7 @@ use Rattle.mmt_model.specs.declared.keys.Part.TheVariants as parts
 abbrev pub own_size : PlacedUnit → ℕ
 own_size y = 2 + header_length y + y.value.length
 
--- so many units from one on
+-- N units from one on
 abbrev pub units_from : Programme → ℕ → ℕ → List PlacedUnit
 units_from programme f c = map (unit_at programme) (numbers f c)
 

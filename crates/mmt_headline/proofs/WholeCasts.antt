@@ -61,7 +61,7 @@ units-presented programme files ok u l =
       time = ap (λ p. time_for 1 (entry_of (broadcast_of cast contents).cast p.mpu) p.value.key) at ∙ ap (λ (e : Entry). time_for 1 e x.value.key) (entry-at cast contents (mpu_of cast u) known ∙ entry);
     }
 
-due-presented : (programme : Programme) (files : ℕ → List ℕ) → IsSendable programme files → (u : ℕ) → u < length (all_units programme)
+due-presented : (programme : Programme) (files : ℕ → List ℕ) → IsSendable programme (cast_of programme) files → (u : ℕ) → u < length (all_units programme)
     → due_of_unit (broadcast_of (cast_of programme) (contents_sent programme files)) u ≡ due_of_placed (unit_at programme u)
 unfolding due_of_unit due_of_placed
 due-presented programme files ok u l = ap due_of (units-presented programme files ok u l).time
@@ -116,7 +116,7 @@ any-at p f [] i d l h = absurd (omega (arith, l))
 any-at p f (x ∷ xs) zero d l h = rw h refl
 any-at p f (x ∷ xs) (suc i) d l h = or_right (p (f x)) (list_any p (map f xs)) (any-at p f xs i d (omega (arith, l)) h)
 
-module _ (programme : Programme) (files : ℕ → List ℕ) (ok : IsSendable programme files) where
+module _ (programme : Programme) (files : ℕ → List ℕ) (ok : IsSendable programme (cast_of programme) files) where
   abbrev c : Cast
   c = cast_of programme
 
@@ -124,7 +124,7 @@ module _ (programme : Programme) (files : ℕ → List ℕ) (ok : IsSendable pro
   b = broadcast_of (cast_of programme) (contents_sent programme files)
 
   right : IsCastOf c (contents_sent programme files) (names_in 1)
-  right = casts-carry 1 programme files ok
+  right = casts-carry 1 programme (cast_of programme) files ok
 
   laid : IsWellFormed b (names_in 1)
   laid = formed c (contents_sent programme files) (names_in 1) right (apart b c.params (admitted c (contents_sent programme files) (names_in 1) ok.admitted right))
@@ -204,5 +204,5 @@ pub gives-all : TakeGivesBack → WholeCastsAreExpected → TakeGivesAllBack
 unfolding stream
 gives-all law whole config programme files limit outcome old new unread reads reads' writes writes' ok r does =
     let w = whole programme files ok in
-    let g = law config programme files (in_order programme) (record { sendable = ok; receives = r; of = w.of; near = w.near }) limit outcome old new unread reads reads' writes writes' does in
+    let g = law config programme (cast_of programme) files (in_order programme) (record { sendable = ok; receives = r; of = w.of; near = w.near }) limit outcome old new unread reads reads' writes writes' does in
     (g.0, g.1, λ e. g.2.written e ∙ ap records w.all, subst (IsPrefix (bytes_written g.0)) (ap records w.all) g.2.writing, g.3)

@@ -32,10 +32,10 @@ gives : (programme : Programme) (cast : Cast) (delivery : List ℕ) (units : Lis
     → ((files : ℕ → List ℕ) → expected_in cast (contents_sent programme files) programme.full_every delivery ≡ units (files 0)) → Gives programme delivery units
 gives programme cast delivery units theorem meets is of computed =
     let packets_of : AreOf (cast_of programme).packets delivery = subst (λ (c : Cast). AreOf c.packets delivery) (sym is) of in
-    let all : (files : ℕ → List ℕ) → expected_of programme files delivery ≡ units (files 0) =
+    let all : (files : ℕ → List ℕ) → expected_of programme (cast_of programme) files delivery ≡ units (files 0) =
     λ files. subst (λ (c : Cast). expected_in c (contents_sent programme files) programme.full_every delivery ≡ units (files 0)) (sym is) (computed files) in
     record {
-      received = λ config files receives units_there. units-are config programme files delivery theorem (meets.sendable files units_there) receives packets_of (meets.near delivery packets_of) ∙ all files;
+      received = λ config files receives units_there. units-are config programme (cast_of programme) files delivery theorem (meets.sendable files units_there) receives packets_of (meets.near delivery packets_of) ∙ all files;
       expected = all;
     }
 

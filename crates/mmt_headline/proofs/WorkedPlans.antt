@@ -1,5 +1,5 @@
 -- The worked plans meet the premises.
-use Rattle.std.proofs.Common.{◌≡◌, ℕ, zero, suc, ◌+◌, ◌<◌, ◌≤◌, List, ◌∷◌, length, arith, refl, sym, subst}
+use Rattle.std.proofs.Common.{◌≡◌, inl, ℕ, zero, suc, ◌+◌, ◌<◌, ◌≤◌, List, ◌∷◌, length, arith, refl, sym, subst}
 use Rattle.std.proofs.lemmas.List.Elements.{All-from_recursion}
 use Rattle.mmt_cast.proofs.Computing.{worked_plans_compute}
 use Rattle.mmt_cast.proofs.Examples.{examples}
@@ -83,13 +83,13 @@ limits-held files long = All-from_recursion (λ (x : PlacedUnit). x.value.from +
 
 meets : (programme : Programme) → programme.full_every ≡ 3 → IsClose (cast_of programme) → CanBeCast programme → ((files : ℕ → List ℕ) → HasUnits files → HoldUnits files programme) → ((timescale : ℕ) → Receives (usual_config timescale) programme) → MeetsPremises programme
 meets programme every is can held receives =
-    let sendable : (files : ℕ → List ℕ) → HasUnits files → IsSendable programme files = λ files long. record { right = can.right; cast = can.has_cast; admitted = can.admitted; held = held files long } in
+    let sendable : (files : ℕ → List ℕ) → HasUnits files → IsSendable programme (cast_of programme) files = λ files long. record { right = can.right; none = can.has_cast; of = inl refl; admitted = can.admitted; held = held files long } in
     record {
       sendable = sendable;
-      carries = λ files timescale long. casts-carry timescale programme files (sendable files long);
+      carries = λ files timescale long. casts-carry timescale programme (cast_of programme) files (sendable files long);
       receives = receives;
       tuned = subst (λ (n : ℕ). (later : List ℕ) → tuned_places (cast_of programme) n (0 ∷ later) ≡ 0 ∷ later) (sym every) is.tuned;
-      near = λ delivery of. short_near (cast_of programme).packets is.close (tuned_places (cast_of programme) programme.full_every delivery) (tuned-of programme delivery of);
+      near = λ delivery of. short_near (cast_of programme).packets is.close (tuned_places (cast_of programme) programme.full_every delivery) (tuned-of programme (cast_of programme) delivery of);
     }
 
 pub met : EachWorked MeetsPremises

@@ -35,7 +35,7 @@ pub record AddressFits (a : Addressing) : Type 0 where
   pub header : HeaderFits a.header
   pub context : a.context < 4096
 
--- a payload that is written is read as what it spells, is opened, and has so many bytes
+-- a payload that is written is read as what it spells, is opened, and has N bytes
 pub record PayloadIs (w : Written) (packet_id : ℕ) : Type 0 where
   pub payload : payload_by (kind_of w) (bytes_of w) ≡ spelled w
   pub opened : is_opened packet_id (kind_of w) (bytes_of w) ≡ true

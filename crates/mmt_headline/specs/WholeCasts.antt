@@ -49,22 +49,22 @@ pub record IsPresented (files : ℕ → List ℕ) (x : PlacedUnit) (p : Presenta
 
 -- so is each unit of a programme
 abbrev pub UnitsArePresented : Type 0
-UnitsArePresented = (programme : Programme) (files : ℕ → List ℕ) → IsSendable programme files → (u : ℕ) → u < length (all_units programme) → IsPresented files (unit_at programme u) (presentation_at programme files u)
+UnitsArePresented = (programme : Programme) (files : ℕ → List ℕ) → IsSendable programme (cast_of programme) files → (u : ℕ) → u < length (all_units programme) → IsPresented files (unit_at programme u) (presentation_at programme files u)
 
 -- each packet once and in its order is a near delivery, and all units are expected of it
 pub record IsWhole (programme : Programme) (files : ℕ → List ℕ) : Type 0 where
   pub of : AreOf (cast_of programme).packets (in_order programme)
   pub near : IsNear (cast_of programme) programme.full_every (in_order programme)
-  pub all : expected_of programme files (in_order programme) ≡ all_presented programme files
+  pub all : expected_of programme (cast_of programme) files (in_order programme) ≡ all_presented programme files
 
 abbrev pub WholeCastsAreExpected : Type 0
-WholeCastsAreExpected = (programme : Programme) (files : ℕ → List ℕ) → IsSendable programme files → IsWhole programme files
+WholeCastsAreExpected = (programme : Programme) (files : ℕ → List ℕ) → IsSendable programme (cast_of programme) files → IsWhole programme files
 
 -- `take` over the stream of a programme: done, it wrote exactly the records of all units of the programme; ended in any way, a prefix of them; and it is done where no call of the port failed and the limit is not below the bytes, unless memory ran out
 abbrev pub TakeGivesAllBack : Type 0
 TakeGivesAllBack =
     (config : Config) (programme : Programme) (files : ℕ → List ℕ) (limit : ℕ) (outcome : StreamEnd) (old new : List Event) (unread : List ℕ) (reads reads' writes writes' : ℕ)
-    → IsSendable programme files → Receives config programme → Does (taking config) limit outcome old new (joined (stream programme files)) unread reads reads' writes writes'
+    → IsSendable programme (cast_of programme) files → Receives config programme → Does (taking config) limit outcome old new (joined (stream programme (cast_of programme) files)) unread reads reads' writes writes'
     → (events : List Event) × (new ≡ old ++ events) × (outcome ≡ end.Done → bytes_written events ≡ records (all_presented programme files))
     × IsPrefix (bytes_written events) (records (all_presented programme files))
-    × (length (joined (stream programme files)) ≤ limit → (Rose reads reads' → ⊥) → (Rose writes writes' → ⊥) → (outcome ≡ end.Done) ⊎ (outcome ≡ end.OutOfMemory))
+    × (length (joined (stream programme (cast_of programme) files)) ≤ limit → (Rose reads reads' → ⊥) → (Rose writes writes' → ⊥) → (outcome ≡ end.Done) ⊎ (outcome ≡ end.OutOfMemory))

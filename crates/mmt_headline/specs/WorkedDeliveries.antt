@@ -1,5 +1,6 @@
 -- Deliveries of the worked plans, and what a receiver gives back of each. The plans' tables are those that are sent, and the receiver reads them from the bytes of its packets.
 use Rattle.std.specs.Prelude.{◌≡◌, ℕ, List, [], ◌∷◌, map, length, take, drop}
+use Rattle.mmt_cast.specs.Casting.{cast_of}
 use Rattle.mmt_cast.specs.PlanOne.{plan_at_limits, plan_one, plan_two_tables}
 use Rattle.mmt_model.specs.Carrying.{numbers}
 use Rattle.mmt_model.specs.Entries.{Entry}
@@ -57,9 +58,9 @@ none file = []
 pub record Gives (programme : Programme) (delivery : List ℕ) (units : List ℕ → List Presentation) : Type 0 where
   -- a receiver of the programme hands them out, at the packets and at the end, where it reads the bytes of the packets
   pub received : (config : Config) (files : ℕ → List ℕ) → Receives config programme → HasUnits files
-      → all_units config (placed_of programme files delivery) ≡ units (files 0)
+      → all_units config (placed_of programme (cast_of programme) files delivery) ≡ units (files 0)
   -- they are expected by which packets survived
-  pub expected : (files : ℕ → List ℕ) → expected_of programme files delivery ≡ units (files 0)
+  pub expected : (files : ℕ → List ℕ) → expected_of programme (cast_of programme) files delivery ≡ units (files 0)
 
 -- deliveries of the worked plans
 pub record IsDelivered : Type 0 where

@@ -22,7 +22,7 @@ HasUnits files = 3500 ≤ length (files 0)
 -- a worked plan meets the premises
 pub record MeetsPremises (programme : Programme) : Type 0 where
   -- it can be sent
-  pub sendable : (files : ℕ → List ℕ) → HasUnits files → IsSendable programme files
+  pub sendable : (files : ℕ → List ℕ) → HasUnits files → IsSendable programme (cast_of programme) files
   -- its cast goes with its units and messages, whatever the timescale of the receiver that reads its tables
   pub carries : (files : ℕ → List ℕ) (timescale : ℕ) → HasUnits files
       → IsCastOf (cast_of programme) (contents_sent programme files) (names_in timescale)

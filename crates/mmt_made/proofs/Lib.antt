@@ -1,3 +1,14 @@
 pub mod Few
 pub mod Lists
 pub mod RightMade
+pub mod PlanOrder
+pub mod WindowLoad
+pub mod MadeLists
+pub mod MadeTimes
+pub mod TableSizes
+pub mod MadeSendings
+pub mod MadePackets
+pub mod MadeSpans
+pub mod NoRefusal
+pub mod NoFault
+pub mod NearDeliveries

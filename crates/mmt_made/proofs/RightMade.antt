@@ -171,11 +171,11 @@ rising [] r = tt
 rising (p ∷ ps) r = (All-from_recursion (IsBefore p) ps r.0, rising ps r.1)
 
 -- the names of a block by whether it is the last
-abbrev names_if : Bool → ℕ → List (ℕ × ℕ)
+abbrev pub names_if : Bool → ℕ → List (ℕ × ℕ)
 names_if true b = (0, b) ∷ (1, b) ∷ (2, 0) ∷ []
 names_if false b = (0, b) ∷ (0, b + 1) ∷ (1, b) ∷ (1, b + 1) ∷ []
 
-names-are : (b : ℕ) → names_at b ≡ names_if (is_last b) b
+pub names-are : (b : ℕ) → names_at b ≡ names_if (is_last b) b
 unfolding names_at
 names-are b = go (is_last b)
   where

@@ -137,6 +137,6 @@ swapped count i = if i % 2 == 1 then (if nat_lt (i + 1) count then i + 1 else i)
 abbrev pub copies : ℕ → ℕ → List ℕ
 copies n place = if place % 50 == (7 * n) % 50 then [] else (if place % 20 == 10 then place ∷ place ∷ [] else place ∷ [])
 
--- the delivery of a cast of so many packets
+-- the delivery of a cast of N packets
 unfoldable pub delivery : ℕ → ℕ → List ℕ
 delivery n count = flat_map (λ i. copies n (swapped count i)) (numbers 0 count)

@@ -10,7 +10,7 @@ mod programmes;
 mod tracks;
 
 pub use goods::Made;
-pub use making::made;
+pub use making::{cast_of_made, made};
 pub use programmes::programme;
 
 #[cfg(test)]

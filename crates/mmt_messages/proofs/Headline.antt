@@ -6,6 +6,7 @@ use Rattle.mmt_messages.specs.Headline.{SentIsReceived}
 use Rattle.mmt_messages.specs.Sent.{MessagesAreRight}
 use Rattle.mmt_sent.specs.Messages.{message_bytes}
 use Rattle.mmt_model.specs.Admission.{Fault, fault, fault_of_params, or_else}
+use Rattle.mmt_model.specs.declared.casts.Cast.{Cast}
 use Rattle.mmt_model.specs.declared.programmes.Programme.{Programme}
 use Rattle.mmt_naming.specs.Findings.{names_in}
 
@@ -13,9 +14,13 @@ first-none : (a b : Option Fault) → or_else a b ≡ None → a ≡ None
 first-none None b e = refl
 first-none (Some r) b e = absurd cc
 
+pub cast-values : (cast : Cast) → fault cast ≡ None → fault_of_params cast.params ≡ None
+unfolding fault
+cast-values cast e = first-none _ _ e
+
 pub values : (programme : Programme) → fault (cast_of programme) ≡ None → fault_of_params programme.params ≡ None
-unfolding fault cast_of
-values programme e = first-none _ _ e
+unfolding cast_of
+values programme e = cast-values (cast_of programme) e
 
 pub received : ProgrammesAreDelivered → MessagesAreRight → SentIsReceived
 received delivered messages programme files timescale k right fits none ok receiver =

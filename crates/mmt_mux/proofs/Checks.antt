@@ -23,16 +23,33 @@ use Rattle.mmt_plan.specs.declared.ends.PlanEnd.TheVariants as plans
 use Rattle.mmt_plan.specs.declared.ends.Refusal.{Refusal}
 
 -- what is checked of a programme
-abbrev of_admission : Programme → Result Programme Why
+abbrev pub of_admission : Programme → Result Programme Why
 of_admission p = is_admitted (fault (cast_of p)) >>= (λ _. Ok p)
 
-abbrev of_files : (List ℕ → Option (List ℕ)) → Programme → Result Programme Why
+abbrev pub of_files : (List ℕ → Option (List ℕ)) → Programme → Result Programme Why
 of_files file p = checked (files_of file p) >>= (λ _. of_admission p)
 
-abbrev of_cast : (List ℕ → Option (List ℕ)) → Programme → Result Programme Why
+abbrev pub of_cast : (List ℕ → Option (List ℕ)) → Programme → Result Programme Why
 of_cast file p = has_cast (refusal p) >>= (λ _. of_files file p)
 
-steps : (file : List ℕ → Option (List ℕ)) (name : List ℕ) → sendable file name ≡ (checked (plan (file name)) >>= of_cast file)
+-- the same, from what each check answers
+abbrev pub admission_then : Programme → Option Fault → Result Programme Why
+admission_then p o = is_admitted o >>= (λ _. Ok p)
+
+abbrev pub files_then : Programme → Result (Unit {0}) Refusal → Result Programme Why
+files_then p r = checked r >>= (λ _. of_admission p)
+
+abbrev pub cast_then : (List ℕ → Option (List ℕ)) → Programme → Option NoCast → Result Programme Why
+cast_then file p o = has_cast o >>= (λ _. of_files file p)
+
+abbrev pub plan_then : (List ℕ → Option (List ℕ)) → Result Programme Refusal → Result Programme Why
+plan_then file r = checked r >>= of_cast file
+
+-- what is admitted of what may be cast
+abbrev pub with_admission : Result Programme Refusal → Result Programme Why
+with_admission r = checked r >>= of_admission
+
+pub steps : (file : List ℕ → Option (List ℕ)) (name : List ℕ) → sendable file name ≡ (checked (plan (file name)) >>= of_cast file)
 unfolding sendable
 steps file name = refl
 

@@ -10,19 +10,18 @@ use Rattle.mmt_cast.specs.Casting.{cast_of}
 use Rattle.mmt_cast.specs.Refusing.{refusal}
 use Rattle.mmt_io.specs.History.{Event, bytes_noted, bytes_read, bytes_written}
 use Rattle.mmt_io.specs.History.Event.{In, Note, Out}
+use Rattle.mmt_model.specs.Admission.{Fault}
 use Rattle.mmt_model.specs.Right.{IsRight}
 use Rattle.mmt_model.specs.declared.casts.Cast.{Cast}
 use Rattle.mmt_model.specs.declared.programmes.Programme.{Programme}
 use Rattle.mmt_mux.proofs.Holding.{never_short}
-use Rattle.mmt_mux.specs.Ending.{IsMuxAnswer, Muxes, Passes, send_end}
-use Rattle.mmt_mux.specs.Sendable.{Why, sent_bytes}
+use Rattle.mmt_mux.specs.Casts.{IsCastAnswer, bytes_if}
+use Rattle.mmt_mux.specs.Ending.{Muxes, Passes, send_end}
 use Rattle.mmt_mux.specs.declared.ends.MuxEnd.{MuxEnd}
 use Rattle.mmt_plan.specs.Files.{files_of}
-use Rattle.mmt_send.specs.Files.{IsUnitShort, files_on}
 use Rattle.mmt_send.specs.Writes.{EndsFor, HasBegun, IsFrontOf, pieces}
 use Rattle.mmt_send.specs.declared.ends.SendEnd.{SendEnd}
 use Rattle.mmt_send.specs.declared.ends.SendEnd.TheVariants as sends
-use Rattle.mmt_sent.specs.Stream.{stream}
 use Rattle.mmt_tlv.specs.Framing.{Packet, joined, spelling}
 
 -- a cast that may be asked about
@@ -43,12 +42,9 @@ quiet : (ps : List Packet) → bytes_noted (pieces ps) ≡ []
 quiet [] = refl
 quiet (p ∷ ps) = quiet ps
 
-pub all_sent : (file now : List ℕ → Option (List ℕ)) (checks : Result Programme Why) (p : Programme) (old new : List Event) → now ≡ file → checks ≡ Ok p → new ≡ old ++ pieces (stream p (files_on now p))
-    → Passes (sent_bytes file checks) old new
-all_sent file now checks p old new same is h =
-    subst (λ r. Passes (sent_bytes file r) old new) (sym is)
-    (subst (λ f. Passes (joined (stream p (files_on f p))) old new) same
-    (record { events = pieces (stream p (files_on now p)); history = h; written = written (stream p (files_on now p)); unread = unread (stream p (files_on now p)); quiet = quiet (stream p (files_on now p)) }))
+pub all_sent : (found : Option Fault) (packets : List Packet) (old new : List Event) → found ≡ None → new ≡ old ++ pieces packets → Passes (bytes_if found (joined packets)) old new
+all_sent found packets old new none h =
+    subst (λ (o : Option Fault). Passes (bytes_if o (joined packets)) old new) (sym none) (record { events = pieces packets; history = h; written = written packets; unread = unread packets; quiet = quiet packets })
 
 -- ---- a front of them
 
@@ -94,18 +90,21 @@ begun packets end old new b =
       record { events = pieces b.sent ++ b.last; history = b.history; written = written-then b.sent b.last; unread = unread-then b.sent b.last part.unread; quiet = quiet-then b.sent b.last part.quiet },
     )
 
-pub part_sent : (file now : List ℕ → Option (List ℕ)) (checks : Result Programme Why) (p : Programme) (end : MuxEnd) (old new : List Event) → now ≡ file → checks ≡ Ok p → HasBegun old new (stream p (files_on now p))
-    → Muxes (sent_bytes file checks) (Err end) old new
-part_sent file now checks p end old new same is b =
-    subst (λ r. Muxes (sent_bytes file r) (Err end) old new) (sym is)
-    (subst (λ f. Muxes (joined (stream p (files_on f p))) (Err end) old new) same (begun (stream p (files_on now p)) end old new b))
+pub part_sent : (found : Option Fault) (packets : List Packet) (end : MuxEnd) (old new : List Event) → found ≡ None → HasBegun old new packets → Muxes (bytes_if found (joined packets)) (Err end) old new
+part_sent found packets end old new none b = subst (λ (o : Option Fault). Muxes (bytes_if o (joined packets)) (Err end) old new) (sym none) (begun packets end old new b)
+
+pub none_sent : (bytes : List ℕ) (end : MuxEnd) (h : List Event) → Muxes bytes (Err end) h h
+none_sent bytes end h = ([], bytes, refl, record { events = []; history = sym (append-nil h); written = refl; unread = refl; quiet = refl })
 
 -- ---- the end
 
-pub send_ended : (file now : List ℕ → Option (List ℕ)) (checks : Result Programme Why) (p : Programme) (cast : Cast) (tells : Bool) (reads writes : ℕ × ℕ) (end : SendEnd) → now ≡ file → files_of file p ≡ Ok tt → IsTrue tells
-    → EndsFor p tells now reads writes end → IsMuxAnswer checks (Err (send_end cast end))
-send_ended file now checks p cast tells reads writes sends.ReadFault same files told why = tt
-send_ended file now checks p cast tells reads writes (sends.UnitShort unit size held) same files told why =
-    absurd (never_short file p unit size held files (subst (λ f. IsUnitShort p (files_on f p) unit size held) same (why told)))
-send_ended file now checks p cast tells reads writes sends.WriteFault same files told why = tt
-send_ended file now checks p cast tells reads writes sends.OutOfMemory same files told why = tt
+pub send_ended : (file : List ℕ → Option (List ℕ)) (found : Option Fault) (p : Programme) (cast : Cast) (tells : Bool) (reads writes : ℕ × ℕ) (end : SendEnd) → files_of file p ≡ Ok tt → IsTrue tells
+    → EndsFor p tells file reads writes end → IsCastAnswer found (Err (send_end cast end))
+send_ended file found p cast tells reads writes sends.ReadFault files told why = tt
+send_ended file found p cast tells reads writes (sends.UnitShort unit size held) files told why = absurd (never_short file p unit size held files (why told))
+send_ended file found p cast tells reads writes sends.WriteFault files told why = tt
+send_ended file found p cast tells reads writes sends.OutOfMemory files told why = tt
+
+-- what was checked of files that are still the same
+pub same_files : (file now : List ℕ → Option (List ℕ)) (p : Programme) → now ≡ file → files_of file p ≡ Ok tt → files_of now p ≡ Ok tt
+same_files file now p same e = ap (λ (f : List ℕ → Option (List ℕ)). files_of f p) same ∙ e

@@ -24,7 +24,7 @@ use Rattle.mmt_send.specs.declared.ends.SendEnd.TheVariants as sends
 use Rattle.mmt_mux.specs.declared.ends.MuxEnd.{MuxEnd}
 use Rattle.mmt_mux.specs.declared.ends.MuxEnd.TheVariants as ends
 
--- the end is Done exactly where the stream is sent, and otherwise the first reason against it, faults and `OutOfMemory` aside
+-- the end is Done if and only if the stream is sent, and otherwise the first reason against it, faults and `OutOfMemory` aside
 abbrev pub IsMuxAnswer : Result Programme Why → Result (Unit {0}) MuxEnd → Type 0
 IsMuxAnswer checks (Ok x) = (p : Programme) × (checks ≡ Ok p)
 IsMuxAnswer checks (Err (ends.Refused reason place)) = checks ≡ Err (Refused (record { reason = reason; place = place }))
@@ -32,10 +32,6 @@ IsMuxAnswer checks (Err (ends.NotAdmitted refusal)) = checks ≡ Err (Faulty (fa
 IsMuxAnswer checks (Err ends.ReadFault) = Unit {0}
 IsMuxAnswer checks (Err ends.WriteFault) = Unit {0}
 IsMuxAnswer checks (Err ends.OutOfMemory) = Unit {0}
-
--- a run ends before admission, by a refusal or a fault
-abbrev pub IsRefused : Result Programme Why → MuxEnd → Type 0
-IsRefused checks end = IsMuxAnswer checks (Err end)
 
 -- the programme is that of the plan of a name, it has a cast, and its files are there and long enough
 pub record IsRead (file : List ℕ → Option (List ℕ)) (name : List ℕ) (p : Programme) : Type 0 where

@@ -1,2 +1,4 @@
 pub mod Sendable
 pub mod Ending
+pub mod Casts
+pub mod Pacing

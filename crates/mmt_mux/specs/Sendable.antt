@@ -61,5 +61,5 @@ sendable file name = do
 
 -- the bytes that are sent: the stream of the programme, and none where there is a reason against it
 abbrev pub sent_bytes : (List ℕ → Option (List ℕ)) → Result Programme Why → List ℕ
-sent_bytes file (Ok p) = joined (stream p (files_on file p))
+sent_bytes file (Ok p) = joined (stream p (cast_of p) (files_on file p))
 sent_bytes file (Err why) = []

@@ -1,4 +1,4 @@
-//! Why a run of `mux` ends before the whole stream is written.
+//! Why a run of `mux` or `pace` ends before the whole stream is written.
 
 ghost use Rattle.std.specs.Prelude.{◌≡◌};
 ghost use Rattle.mmt_mux.specs.Ending.{send_end, unit_place};
@@ -8,6 +8,7 @@ use mmt_casting::CastEnd;
 use mmt_model::Cast;
 use mmt_plan::{FilesEnd, PlanEnd, PlanPart, PlanPlace, Reason};
 use mmt_send::SendEnd;
+use mmt_slots::NoSchedule;
 use thiserror::Error;
 
 /// Why a run of `mux` ends before the whole stream is written. It shows as the text of the status with which the
@@ -30,6 +31,47 @@ pub enum MuxEnd {
     /// There is no memory.
     #[error("out of memory")]
     OutOfMemory,
+}
+
+/// Why a run of `pace` ends before the whole stream is written. It shows as the text of the status with which the
+/// program then ends.
+#[derive(Clone, Copy, Debug, PartialEq, Eq, Error)]
+pub enum PaceEnd {
+    /// An interval has more packets than slots: its first and its last tick, and how many packets have to go in it and
+    /// how many slots it has.
+    #[error("not paced: {from} {to} {jobs} {slots}")]
+    NotPaced {
+        from: u64,
+        to: u64,
+        jobs: u32,
+        slots: u32,
+    },
+    /// As a run of `mux` ends, with the paced cast in place of the cast.
+    #[error("{0}")]
+    Ended(MuxEnd),
+}
+
+impl From<NoSchedule> for PaceEnd {
+    ghost use Rattle.mmt_mux.specs.Pacing.{no_schedule_end};
+
+    ghost from_gives = { λ end gives. gives ≡ no_schedule_end end };
+
+    fn from(end: NoSchedule) -> PaceEnd {
+        match end {
+            NoSchedule::Overfull {
+                from,
+                to,
+                jobs,
+                slots,
+            } => PaceEnd::NotPaced {
+                from,
+                to,
+                jobs,
+                slots,
+            },
+            NoSchedule::OutOfMemory => PaceEnd::Ended(MuxEnd::OutOfMemory),
+        }
+    }
 }
 
 impl From<PlanEnd> for MuxEnd {

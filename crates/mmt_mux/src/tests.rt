@@ -112,7 +112,7 @@ fn a_file_that_shrinks_has_a_short_unit(rt: HostRuntime) -> Result<(), Fail> {
     Ok(())
 }
 
-// The plan with so many tables, a hundred ticks apart, and the item after 258 of them.
+// The plan with N tables, a hundred ticks apart, and the item after 258 of them.
 fn plan_of(alloc: Global, tables: u32) -> Result<String, Fail> {
     let (before, rest) = PLAN.split_once("\"bound\":4000").ok_or("no bound")?;
     let (between, rest) = rest.split_once("{\"at\":100,").ok_or("no table")?;
@@ -140,7 +140,7 @@ fn the_version_of_a_table_goes_from_255_to_0(rt: HostRuntime) -> Result<(), Fail
     assert_eq!(rt; mux(alloc, "plan.json", &mut shelf, &mut port), Ok(()));
     let written = port.written();
     assert_eq!(rt; written.len(), 83 + 258 * 121 + 79);
-    // Behind the buffer message and the tables stands the item.
+    // After the buffer message and the tables stands the item.
     let tables = written.get(83..83 + 258 * 121).ok_or("no tables")?;
     let mut number = 0u32;
     for packet in tables.chunks(121) {

@@ -18,7 +18,7 @@ begun_more old mid new all lines left b p = record {
   puts = puts_both old mid new (only_noted b.front) (only_noted lines) b.puts p;
 }
 
--- a start of lines more
+-- a prefix of lines more
 pub begun_part : (old mid new : List Event) (all lines left : List ℕ) → Begun old mid all (lines ++ left) → PutsPrefix mid new (only_noted lines) → PutsPrefix old new (only_noted all)
 begun_part old mid new all lines left b p =
     subst (λ x. PutsPrefix old new (only_noted x)) (append_assoc b.front lines left ∙ sym b.whole)

@@ -21,7 +21,7 @@ other_table timescale message at t other = rw (ne_eqb t.id mpt_id other) refl
 pub mpt_table : (timescale message at : ℕ) (t : ListedTable) → t.id ≡ mpt_id → findings_of_table timescale message at t ≡ findings_of_mpt timescale message at (mpt_of t.bytes)
 mpt_table timescale message at t is = rw (eq-eqb t.id mpt_id is) refl
 
--- a table, and then those behind it
+-- a table, and then those after it
 pub tables_more : (timescale message at next : ℕ) (t : ListedTable) (ts : List ListedTable) → next ≡ at + length t.bytes → findings_of_tables timescale message at (t ∷ ts) ≡ findings_of_table timescale message at t ++ findings_of_tables timescale message next ts
 unfolding findings_of_tables
 tables_more timescale message at next t ts is = rw is refl
@@ -30,7 +30,7 @@ pub tables_none : (timescale message at : ℕ) → findings_of_tables timescale 
 unfolding findings_of_tables
 tables_none timescale message at = refl
 
--- a message, and then those behind it
+-- a message, and then those after it
 pub messages_more : (timescale : ℕ) (tuned : Params) (number : ℕ) (m : List ℕ) (ms : List (List ℕ)) → findings_from timescale tuned number (m ∷ ms) ≡ findings_in timescale tuned number m ++ findings_from timescale tuned (number + 1) ms
 unfolding findings_from
 messages_more timescale tuned number m ms = refl

@@ -56,7 +56,7 @@ lines_more place now old mid new whole before after fs left b is p =
     let P : Known → Type 0 = λ k. Begun old new whole (lines_of place now k.entries left) in
     subst P (sym is) (begun_more old mid new whole (lines_of place now before.entries fs) (lines_of place now (learned_by now before fs).entries left) (subst (λ x. Begun old mid whole x) (lines_both place now before fs left) b) p)
 
--- a start of their lines was noted
+-- a prefix of their lines was noted
 pub lines_part : (place now : ℕ) (old mid new : List Event) (whole : List ℕ) (before : Known) (fs left : List Finding) → Begun old mid whole (lines_of place now before.entries (fs ++ left)) → PutsPrefix mid new (only_noted (lines_of place now before.entries fs))
     → PutsPrefix old new (only_noted whole)
 lines_part place now old mid new whole before fs left b p =

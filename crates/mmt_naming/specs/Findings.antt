@@ -77,7 +77,7 @@ findings_of_tables timescale message at (t ∷ ts) = findings_of_table timescale
 abbrev pub are_same : Params → Params → Bool
 are_same p q = (p.bound == q.bound) && ((p.window == q.window) && (p.delay == q.delay))
 
--- message M, where the receiver was tuned by these values; the first table of a PA message stands behind its directory (this project's rule)
+-- message M, where the receiver was tuned by these values; the first table of a PA message stands after its directory (this project's rule)
 abbrev pub findings_of_message : ℕ → Params → ℕ → Result MessageValue (Refused MessageWhy) → List Finding
 findings_of_message timescale tuned message (Ok (PaMessage p)) = findings_of_tables timescale message (8 + 4 * length p.tables) p.tables
 findings_of_message timescale tuned message (Ok (HrbmMessage h)) = if are_same h.params tuned then [] else Remark (notes.HrbmDiffers message) ∷ []
@@ -97,7 +97,7 @@ findings_from timescale tuned message (m ∷ ms) = findings_in timescale tuned m
 abbrev pub findings_of_joined : ℕ → Params → Message → List Finding
 findings_of_joined timescale tuned m = if is_short m then findings_in timescale tuned 0 m.bytes else Remark (notes.MessageLong 0 (length m.bytes)) ∷ []
 
--- the messages of a packet's payload where they are whole, and else the one that the packet is a part of among the kept packets (ISO/IEC 23008-1, the signalling payload)
+-- the messages of a packet's payload where they are whole, otherwise the one that the packet is a part of among the kept packets (ISO/IEC 23008-1, the signalling payload)
 abbrev pub findings_by : ℕ → Params → List Heard → Heard → Payload → List Finding
 findings_by timescale tuned kept h (Payload.Signalling parts.Whole messages) = findings_from timescale tuned 0 messages
 findings_by timescale tuned kept h (Payload.Signalling parts.First messages) = flat_map (findings_of_joined timescale tuned) (messages_with kept h.packet_id h.number)

@@ -51,7 +51,7 @@ pub(crate) fn are_same(some: Params, others: Params) -> bool
 ///
 /// # Errors
 ///
-/// The port failed, and noted a start of the line, or there is no memory for it.
+/// The port failed, and noted a prefix of the line, or there is no memory for it.
 pub(crate) fn tell_any<P: Port>(port: &mut P, by: &By, note: Option<Note>) -> Result<(), Untold>
     ensures sends { OnlySends P.tells P.left P.read_faults P.write_faults port.old port.new }
     ensures cause { IsErrOf result Untold.WriteFault → Rose (P.write_faults port.old) (P.write_faults port.new) }

@@ -18,11 +18,11 @@ no_read-append (Note bytes ∷ xs) ys left right = no_read-append xs ys left rig
 prefix_behind : (a b c : List ℕ) → IsPrefix b c → IsPrefix (a ++ b) (a ++ c)
 prefix_behind a b c (rest, is) = (rest, ap (λ x. a ++ x) is ∙ sym (append_assoc a b rest))
 
--- a start behind an output is a start of both
+-- a prefix after an output is a prefix of both
 start_behind : (a b c : Output) → IsPrefixOf b c → IsPrefixOf (followed a b) (followed a c)
 start_behind a b c s = record { written = prefix_behind a.written b.written c.written s.written; noted = prefix_behind a.noted b.noted c.noted s.noted }
 
--- an output is a start of itself, and nothing is a start of each
+-- an output is a prefix of itself, and nothing is a prefix of each
 pub start_itself : (a : Output) → IsPrefixOf a a
 start_itself a = start_of_both a nothing a (followed-nothing a)
 
@@ -46,7 +46,7 @@ puts_both old mid new a b p q = record {
   output = output_of-append p.events q.events ∙ ap₂ (λ x y. followed x y) p.output q.output;
 }
 
--- one output and then a start of another
+-- one output and then a prefix of another
 pub puts_and_start : (old mid new : List Event) (a b : Output) → Puts old mid a → PutsPrefix mid new b → PutsPrefix old new (followed a b)
 puts_and_start old mid new a b p q = record {
   events = p.events ++ q.events;
@@ -55,15 +55,15 @@ puts_and_start old mid new a b p q = record {
   start = subst (λ o. IsPrefixOf o (followed a b)) (sym (output_of-append p.events q.events ∙ ap (λ x. followed x (output_of q.events)) p.output)) (start_behind a (output_of q.events) b q.start);
 }
 
--- a start of a start of the whole
+-- a prefix of a prefix of the whole
 pub start_of : (old new : List Event) (a whole : Output) → IsPrefixOf a whole → PutsPrefix old new a → PutsPrefix old new whole
 start_of old new a whole part p = record { events = p.events; history = p.history; outputs = p.outputs; start = start_trans (output_of p.events) a whole p.start part }
 
--- a start of the first part is a start of both
+-- a prefix of the first part is a prefix of both
 pub start_of_part : (old new : List Event) (a b : Output) → PutsPrefix old new a → PutsPrefix old new (followed a b)
 start_of_part old new a b = start_of old new a (followed a b) (start_of_both a b (followed a b) refl)
 
--- all of it is a start of it
+-- all of it is a prefix of it
 pub puts_start : (old new : List Event) (whole : Output) → Puts old new whole → PutsPrefix old new whole
 puts_start old new whole p = record { events = p.events; history = p.history; outputs = p.outputs; start = subst (λ o. IsPrefixOf o whole) (sym p.output) (start_itself whole) }
 
@@ -72,7 +72,7 @@ pub puts_then : {T E : Type 0} (old mid new : List Event) (a b : Output) (result
 puts_then old mid new a b (Ok answer) p q = puts_both old mid new a b p q
 puts_then old mid new a b (Err reason) p q = puts_and_start old mid new a b p q
 
--- one call of a port writes its bytes, or a start of them
+-- one call of a port writes its bytes, or a prefix of them
 pub puts_written : (old new : List Event) (bytes : List ℕ) → new ≡ old ++ Out bytes ∷ [] → Puts old new (only_written bytes)
 puts_written old new bytes is = record { events = Out bytes ∷ []; history = is; outputs = tt; output = ap only_written (append-nil bytes) }
 
@@ -89,7 +89,7 @@ pub put_written : {T E : Type 0} (old new : List Event) (bytes : List ℕ) (resu
 put_written old new bytes (Ok answer) sent = puts_written old new bytes sent
 put_written old new bytes (Err reason) sent = start_written old new bytes sent
 
--- one call of a port notes its bytes, or a start of them
+-- one call of a port notes its bytes, or a prefix of them
 pub puts_noted : (old new : List Event) (bytes : List ℕ) → new ≡ old ++ Note bytes ∷ [] → Puts old new (only_noted bytes)
 puts_noted old new bytes is = record { events = Note bytes ∷ []; history = is; outputs = tt; output = ap only_noted (append-nil bytes) }
 

@@ -11,7 +11,7 @@ use Rattle.mmt_io.specs.Output.{only_written, Puts, PutsPrefix}
 use Rattle.mmt_output.specs.Records.{timed_mark, key_bytes, header_of, record_of}
 use Rattle.mmt_output.proofs.Putting.{puts_both, puts_and_start, start_of_part}
 
--- a start of the bytes was written, and these parts of them are left
+-- a prefix of the bytes was written, and these parts of them are left
 pub record Begun (old new : List Event) (whole : List ℕ) (left : List (List ℕ)) : Type 0 where
   pub front : List ℕ
   pub all : whole ≡ front ++ joined left
@@ -34,14 +34,14 @@ pub begun : (old new : List Event) (l : Lending) (front : List ℕ) → front �
 unfolding record_of the_presentation
 begun old new l front is p = record { front = front; all = ap (λ x. x ++ joined l.left) (sym is); puts = p }
 
--- a start of the header was written
+-- a prefix of the header was written
 pub begun_start : (old new : List Event) (l : Lending) (front : List ℕ) → front ≡ header_of (the_presentation l) → PutsPrefix old new (only_written front) → PutsPrefix old new (only_written (record_of (the_presentation l)))
 unfolding record_of the_presentation
 begun_start old new l front is p =
     let P : List ℕ → Type 0 = λ x. PutsPrefix old new (only_written (x ++ joined l.left)) in
     subst P is (start_of_part old new (only_written front) (only_written (joined l.left)) p)
 
--- one more part was written, or a start of it, or no part is left
+-- one more part was written, or a prefix of it, or no part is left
 pub begun_more : (old mid new : List Event) (whole part : List ℕ) (left : List (List ℕ)) → Begun old mid whole (part ∷ left) → Puts mid new (only_written part) → Begun old new whole left
 begun_more old mid new whole part left b p = record {
   front = b.front ++ part;

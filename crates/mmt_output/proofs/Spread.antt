@@ -2,7 +2,7 @@
 use Rattle.std.proofs.Common.{◌≡◌, ◌≤◌, ◌<◌, ◌+◌, ℕ, zero, suc, List, [], ◌∷◌, ◌++◌, length, get_or, take, drop, refl, ap, ◌∙◌, arith, drop-cons}
 use Rattle.std.proofs.lemmas.List.{take_all}
 
--- so many items from a place on
+-- N items from a place on
 abbrev pub items : List ℕ → ℕ → ℕ → List ℕ
 items xs i zero = []
 items xs i (suc n) = get_or xs i 0 ∷ items xs (suc i) n

@@ -6,18 +6,18 @@ use Rattle.mmt_words.specs.Words.{why_words, mpu_words, sig_word, message_word, 
 use Rattle.mmt_output.specs.declared.notes.Note.{Note}
 use Rattle.mmt_output.specs.declared.notes.Note.TheVariants as notes
 
--- the number of a message and a place in it, each behind a blank (this project's own words)
+-- the number of a message and a place in it, each after a blank (this project's own words)
 abbrev pub place_words : ℕ → ℕ → List ℕ
 place_words message at = codes " " ++ decimal message ++ codes " " ++ decimal at
 
--- behind the refusal of an MPT: the asset with a clock relation, or the type of a location (this project's own words)
+-- after the refusal of an MPT: the asset with a clock relation, or the type of a location (this project's own words)
 unfoldable pub mpt_number : MptWhy → List ℕ
 mpt_number mpt.Short = []
 mpt_number mpt.Length = []
 mpt_number (mpt.ClockRelation asset) = codes " " ++ decimal asset
 mpt_number (mpt.LocationKind kind) = codes " " ++ decimal kind
 
--- a note: its word, and the numbers behind it; where no place in a message is meant, it is 0 (this project's own words)
+-- a note: its word, and the numbers after it; where no place in a message is meant, it is 0 (this project's own words)
 unfoldable pub note_words : Note → List ℕ
 note_words (notes.Hearing why) = why_words why
 note_words notes.Generic = codes "generic"

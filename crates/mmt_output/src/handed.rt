@@ -24,7 +24,7 @@ impl Handed {
         Handed { units: 0, bytes: 0 }
     }
 
-    // These and one unit more, of so many bytes.
+    // These and one unit more, of N bytes.
     pub(crate) fn and_one(self, length: u32) -> Handed
         ensures { result ≡ record { units = counted (self.units + 1); bytes = counted (self.bytes + length) } }
     {

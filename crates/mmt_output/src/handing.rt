@@ -20,7 +20,7 @@ use mmt_times::Names;
 ///
 /// # Errors
 ///
-/// The port failed, and wrote a start of the records.
+/// The port failed, and wrote a prefix of the records.
 pub fn hand_out<P: Port>(
     port: &mut P,
     pool: &Pool,

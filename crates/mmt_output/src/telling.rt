@@ -35,7 +35,7 @@ fn line_of(alloc: Global, place: u64, note: Note) -> Result<Vec<u8>, OutOfMemory
 ///
 /// # Errors
 ///
-/// The port failed, and noted a start of the line, or there is no memory for the line, and nothing
+/// The port failed, and noted a prefix of the line, or there is no memory for the line, and nothing
 /// was noted.
 pub fn tell<P: Port>(alloc: Global, port: &mut P, place: u64, note: &Note) -> Result<(), Untold>
     ensures sends { OnlySends P.tells P.left P.read_faults P.write_faults port.old port.new }

@@ -75,7 +75,7 @@ fn learn(rt: &impl Abort, names: &mut Names) {
     }
 }
 
-// What is written of the record of the sample to a port with room for so many calls.
+// What is written of the record of the sample to a port with room for N calls.
 fn written(rt: &impl Abort, alloc: Global, calls: u32) -> Result<(bool, Vec<u8>), Fail> {
     let mut pool = Pool::new(alloc, 4000)?;
     let mut names = Names::new(alloc, 1)?;

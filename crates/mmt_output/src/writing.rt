@@ -10,7 +10,7 @@ use crate::headers::header;
 use mmt_io::{Fault, Port};
 use mmt_runs::UnitParts;
 
-// Writes the bytes by one call of the port, where there are any, and else by none.
+// Writes the bytes by one call of the port, where there are any, otherwise by none.
 fn write_part<P: Port>(port: &mut P, part: &[u8]) -> Result<(), Fault>
     ensures sends { OnlySends P.tells P.left P.read_faults P.write_faults port.old port.new }
     ensures cause { IsErr result → Rose (P.write_faults port.old) (P.write_faults port.new) }
@@ -31,7 +31,7 @@ fn write_part<P: Port>(port: &mut P, part: &[u8]) -> Result<(), Fault>
 ///
 /// # Errors
 ///
-/// The port failed, and wrote a start of the record.
+/// The port failed, and wrote a prefix of the record.
 pub fn write_unit<P: Port>(port: &mut P, unit: UnitParts<'_>) -> Result<(), Fault>
     ensures sends { OnlySends P.tells P.left P.read_faults P.write_faults port.old port.new }
     ensures cause { IsErr result → Rose (P.write_faults port.old) (P.write_faults port.new) }

@@ -15,3 +15,4 @@ pub mod Whole
 pub mod Stepping
 pub mod Fitting
 pub mod Beginning
+pub mod Alike

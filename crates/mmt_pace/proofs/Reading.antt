@@ -59,7 +59,7 @@ unfolding mpu_place map_from mpu_named_by
 same-mpus copies n a b [] = refl
 same-mpus copies n a b (m ∷ ms) = ap (λ k. cond ((m.asset == a) && (m.mpu == b)) 0 (suc k)) (same-mpus copies (n + 1) a b ms)
 
-mpu-places : (ticks : ℕ → ℕ) (cast : Cast) (a b : ℕ) → mpu_place (recast ticks cast).mpus a b ≡ mpu_place cast.mpus a b
+pub mpu-places : (ticks : ℕ → ℕ) (cast : Cast) (a b : ℕ) → mpu_place (recast ticks cast).mpus a b ≡ mpu_place cast.mpus a b
 unfolding recast
 mpu-places ticks cast a b = same-mpus (map (copy_in_packets (retimed ticks cast.packets)) cast.copies) 0 a b cast.mpus
 

@@ -1,14 +1,17 @@
 -- A cast that is paced with a step.
-use Rattle.std.proofs.Common.{◌≡◌, ℕ, ◌+◌, ◌<◌, ◌≤◌, ◌^◌, suc, max, List, [], ◌∷◌, ◌++◌, map, length, get_or, take, arith, refl, ap, ◌∙◌}
+use Rattle.std.proofs.Common.{◌≡◌, ℕ, ◌+◌, ◌<◌, ◌≤◌, ◌^◌, suc, max, List, [], ◌∷◌, ◌++◌, map, length, get_or, take, inr, arith, refl, ap, sym, ◌∙◌}
 use Rattle.std.proofs.lemmas.List.{map-append, take_all, take_more}
-use Rattle.mmt_cast.specs.Casting.{greatest}
+use Rattle.mmt_cast.specs.Casting.{cast_of, greatest}
 use Rattle.mmt_model.specs.Survival.{sent_at}
 use Rattle.mmt_model.specs.declared.casts.Cast.{Cast}
 use Rattle.mmt_model.specs.declared.casts.Sent.{Sent}
+use Rattle.mmt_model.specs.declared.programmes.Programme.{Programme}
 use Rattle.mmt_pace.specs.Asked.{AreGiven}
 use Rattle.mmt_pace.specs.Deadlines.{jobs_by, jobs_from}
 use Rattle.mmt_pace.specs.Pacing.{deadline_by, slots_by, slots_to}
-use Rattle.mmt_slots.specs.Schedule.{IsSchedule}
+use Rattle.mmt_pace.specs.Laws.{PacedCastsAreOne}
+use Rattle.mmt_pace.specs.Recast.{IsItsCast, paced_by, recast, ticks_of}
+use Rattle.mmt_slots.specs.Schedule.{IsSchedule, SchedulesAreOne}
 use Rattle.mmt_slots.specs.declared.row.Job.{Job}
 use Rattle.mmt_slots.specs.declared.row.Slots.{Slots}
 
@@ -64,3 +67,13 @@ slots-start cast step = refl
 pub slots-step : (cast : Cast) (step : ℕ) → (slots_by cast step).step ≡ step
 unfolding slots_by
 slots-step cast step = refl
+
+-- a paced cast is one of the same programme
+pub paced-its : (slots : Slots) (given : List ℕ) (cast new : Cast) (programme : Programme) → new ≡ paced_by slots given cast → cast ≡ cast_of programme → IsItsCast programme new
+unfolding paced_by
+paced-its slots given cast new programme e is = inr (ticks_of slots given, e ∙ ap (recast (ticks_of slots given)) is)
+
+-- and it is the only one
+pub paced-one : SchedulesAreOne → PacedCastsAreOne
+paced-one law cast step new other a b =
+    a.2 ∙ (ap (λ (given : List ℕ). paced_by (slots_by cast step) given cast) (law (jobs_by cast) (slots_by cast step) a.0 b.0 a.1.0 a.1.1 b.1.0 b.1.1) ∙ sym b.2)

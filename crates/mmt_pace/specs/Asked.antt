@@ -45,7 +45,7 @@ pub record IsRow (slots : Slots) : Type 0 where
   pub count : slots.count ≤ 2 ^ 24
   pub start : slots.start ≤ 2 ^ 48
 
--- one slot of the row for each of so many packets, all different
+-- one slot of the row for each of N packets, all different
 pub record AreGiven (packets : ℕ) (slots : Slots) (given : List ℕ) : Type 0 where
   pub one_each : length given ≡ packets
   pub in_row : (n : ℕ) → n < packets → slot_of given n < slots.count

@@ -1,5 +1,5 @@
 -- What holds of a cast whose packets are sent at other ticks.
-use Rattle.std.specs.Prelude.{◌≡◌, ℕ, ◌<◌, ◌≤◌, ◌^◌, Bool, List, length, map, get_or, None}
+use Rattle.std.specs.Prelude.{◌≡◌, ℕ, ◌<◌, ◌≤◌, ◌^◌, Bool, List, length, map, get_or, None, Ok}
 use Rattle.mmt_admit.specs.Faults.{IsReadable}
 use Rattle.mmt_cast.specs.Casting.{cast_of}
 use Rattle.mmt_cast.specs.Refusing.{refusal}
@@ -18,6 +18,7 @@ use Rattle.mmt_model.specs.declared.casts.Sent.{Sent}
 use Rattle.mmt_model.specs.declared.programmes.Params.{Params}
 use Rattle.mmt_model.specs.declared.programmes.Programme.{Programme}
 use Rattle.mmt_pace.specs.Asked.{AreGiven, CanBePaced, IsRow}
+use Rattle.mmt_pace.specs.Pacing.{Paces}
 use Rattle.mmt_pace.specs.Recast.{paced_by, recast}
 use Rattle.mmt_slots.specs.declared.row.Slots.{Slots}
 
@@ -63,3 +64,7 @@ PacedCastsAreReadable =
 -- the cast of a right programme begins at a tick at which slots may start
 abbrev pub CastsBeginInTime : Type 0
 CastsBeginInTime = (programme : Programme) → IsRightProgramme programme → sent_at (cast_of programme).packets 0 ≤ 2 ^ 48
+
+-- of a cast there is one cast that is paced with a step
+abbrev pub PacedCastsAreOne : Type 0
+PacedCastsAreOne = (cast : Cast) (step : ℕ) (new other : Cast) → Paces cast step (Ok new) → Paces cast step (Ok other) → new ≡ other

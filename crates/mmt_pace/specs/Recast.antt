@@ -1,7 +1,7 @@
 -- A cast whose packets are sent at other ticks, and so the cast that is paced over slots (this project's rules).
-use Rattle.std.specs.Prelude.{ℕ, List, Bool, map}
+use Rattle.std.specs.Prelude.{◌≡◌, ◌⊎◌, ℕ, List, Bool, map}
 use Rattle.std.specs.List.{filter}
-use Rattle.mmt_cast.specs.Casting.{greatest, has_table, has_unit, is_sent_before, least, long_tick, tick_of_sent}
+use Rattle.mmt_cast.specs.Casting.{cast_of, greatest, has_table, has_unit, is_sent_before, least, long_tick, tick_of_sent}
 use Rattle.mmt_cast.specs.Placing.{map_from}
 use Rattle.mmt_model.specs.Carrying.{named_from_of}
 use Rattle.mmt_model.specs.Sorted.{sort_by}
@@ -11,6 +11,7 @@ use Rattle.mmt_model.specs.declared.casts.Sent.{Sent}
 use Rattle.mmt_model.specs.declared.casts.SentMpu.{SentMpu}
 use Rattle.mmt_model.specs.declared.casts.SentUnit.{SentUnit}
 use Rattle.mmt_model.specs.declared.casts.TableCopy.{TableCopy}
+use Rattle.mmt_model.specs.declared.programmes.Programme.{Programme}
 use Rattle.mmt_slots.specs.Schedule.{slot_of, tick_of}
 use Rattle.mmt_slots.specs.declared.row.Slots.{Slots}
 
@@ -76,3 +77,7 @@ ticks_of slots given n = tick_of slots (slot_of given n)
 -- the cast that is paced: each packet is sent in its slot
 unfoldable pub paced_by : Slots → List ℕ → Cast → Cast
 paced_by slots given cast = recast (ticks_of slots given) cast
+
+-- a cast of a programme: its cast, or the same packets at other ticks
+abbrev pub IsItsCast : Programme → Cast → Type 0
+IsItsCast programme cast = (cast ≡ cast_of programme) ⊎ ((ticks : ℕ → ℕ) × (cast ≡ recast ticks (cast_of programme)))

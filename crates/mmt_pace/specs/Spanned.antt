@@ -23,7 +23,7 @@ abbrev pub span_of_ticks : List ℕ → Option Span
 span_of_ticks [] = None
 span_of_ticks (t ∷ ts) = Some (record { first = record { 0 = least (t ∷ ts) }; last = record { 0 = greatest (t ∷ ts) } })
 
--- the spans of so many things in these packets, by which packets have each
+-- the spans of N things in these packets, by which packets have each
 pub record AreSpans (count : ℕ) (has : ℕ → Carries → Bool) (packets : List Sent) (spans : List (Option Span)) : Type 0 where
   pub long : length spans ≡ count
   pub each : (n : ℕ) → n < count → get_or spans n None ≡ span_of_ticks (ticks_with (has n) packets)
@@ -38,7 +38,7 @@ abbrev pub count_of : Cast → Things → ℕ
 count_of cast things.Units = length cast.units
 count_of cast things.Copies = length cast.copies
 
--- so many numbers from one on, and a number is among them
+-- N numbers from one on, and a number is among them
 abbrev pub is_among : Run → ℕ → Bool
 is_among run n = nat_le run.first n && nat_lt n (run.first + run.count)
 

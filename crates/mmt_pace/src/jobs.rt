@@ -13,7 +13,7 @@ use std::alloc::Global;
 /// How many packet ids there are (ISO/IEC 23008-1, the packet id).
 const PACKET_IDS: usize = 65_536;
 
-/// No limit for each of so many packet ids.
+/// No limit for each of N packet ids.
 fn no_limits(alloc: Global, ids: usize) -> Result<Vec<Option<u64>>, OutOfMemory>
     ensures { IfOk result (λ limits. limits.items ≡ replicate ids None) }
 {

@@ -1,11 +1,12 @@
 //! What holds of casts whose packets are sent at other ticks.
 
 ghost use Rattle.mmt_pace.specs.Asked.{CastsCanBePaced};
-ghost use Rattle.mmt_pace.specs.Laws.{CastsAreTold, CastsBeginInTime, PacedCastsAreReadable};
+ghost use Rattle.mmt_pace.specs.Laws.{CastsAreTold, CastsBeginInTime, PacedCastsAreOne, PacedCastsAreReadable};
 ghost use Rattle.mmt_pace.specs.Laws.{RecastProgrammesAreDelivered};
 ghost use Rattle.mmt_pace.specs.Laws.{RecastProgrammesAreRight, RecastsAreRight};
 
 use mmt_delivery::delivery_theorem;
+use mmt_slots::schedules_are_one;
 
 /// A cast that goes with its contents goes with them at any other ticks too, where packet id and number tell its
 /// packets apart.
@@ -46,3 +47,10 @@ pub fn paced_casts_are_readable()
 pub fn casts_begin_in_time()
     ensures { CastsBeginInTime }
 {}
+
+/// Of a cast there is one cast that is paced with a step.
+pub fn paced_casts_are_one()
+    ensures { PacedCastsAreOne }
+{
+    schedules_are_one();
+}

@@ -16,8 +16,9 @@ mod timing;
 
 pub use jobs::jobs_of;
 pub use laws::{
-    casts_are_told, casts_begin_in_time, casts_can_be_paced, paced_casts_are_readable,
-    recast_programmes_are_delivered, recast_programmes_are_right, recasts_are_right,
+    casts_are_told, casts_begin_in_time, casts_can_be_paced, paced_casts_are_one,
+    paced_casts_are_readable, recast_programmes_are_delivered, recast_programmes_are_right,
+    recasts_are_right,
 };
 pub use recasting::paced;
 pub use steps::pace_cast;

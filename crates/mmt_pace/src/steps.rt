@@ -1,11 +1,14 @@
 //! A cast that is paced with a step.
 
-ghost use Rattle.std.specs.Prelude.{◌≡◌, ◌≤◌, ◌^◌, map, MatchResult, Ok, Err};
-ghost use Rattle.mmt_cast.specs.Casting.{greatest};
+ghost use Rattle.std.specs.Prelude.{◌≡◌, ◌≤◌, ◌^◌, map, IfOk, MatchResult, Ok, Err};
+ghost use Rattle.mmt_admit.specs.Faults.{IsReadable};
+ghost use Rattle.mmt_cast.specs.Casting.{cast_of, greatest};
 ghost use Rattle.mmt_model.specs.Survival.{sent_at};
+ghost use Rattle.mmt_model.specs.declared.programmes.Programme.{Programme};
 ghost use Rattle.mmt_pace.specs.Asked.{CanBePaced};
 ghost use Rattle.mmt_pace.specs.Deadlines.{jobs_by};
 ghost use Rattle.mmt_pace.specs.Pacing.{Paces, deadline_by, slots_by, slots_to as slots_to_tick};
+ghost use Rattle.mmt_pace.specs.Recast.{IsItsCast};
 
 use crate::jobs::jobs_of;
 use crate::recasting::paced;
@@ -85,7 +88,10 @@ pub fn pace_cast(alloc: Global, cast: &Cast, step: u32) -> Result<Cast, NoSchedu
     requires cast { CanBePaced cast.now }
     requires start { sent_at cast.now.packets 0 ≤ 2 ^ 48 }
     requires step { 1 ≤ step }
-    ensures { MatchResult result (λ new. Paces cast.now step (Ok new)) (λ end. Paces cast.now step (Err end)) }
+    ensures paces { MatchResult result (λ new. Paces cast.now step (Ok new)) (λ end. Paces cast.now step (Err end)) }
+    // It is a cast of the same programme, and admission may be asked about it.
+    ensures its { IfOk result (λ new. (programme : Programme) → cast.now ≡ cast_of programme → IsItsCast programme new) }
+    ensures readable { IfOk result (λ new. IsReadable new) }
 {
     let jobs = match jobs_of(alloc, cast) {
         Ok(jobs) => jobs,

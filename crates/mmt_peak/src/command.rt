@@ -1,6 +1,6 @@
 //! The command `peak`.
 
-ghost use Rattle.std.specs.Prelude.{◌≡◌, ℕ, [], List, ◌∷◌, IfOk, OnOk, string_bytes};
+ghost use Rattle.std.specs.Prelude.{◌≡◌, ℕ, ◌+◌, ◌≤◌, [], List, ◌∷◌, IfOk, OnOk, vec_len, vec_capacity};
 ghost use Rattle.mmt_tlv.specs.Framing.{Packet as Tlv, Fits, spelling};
 ghost use Rattle.mmt_tlv.specs.Cutting.{IsPacket};
 ghost use Rattle.mmt_stream.specs.Output.{nothing};
@@ -8,18 +8,20 @@ ghost use Rattle.mmt_model.specs.Delivery.{newest_first};
 ghost use Rattle.mmt_peak.specs.Peaking.{peaking, line_of};
 
 use crate::buffer::{Buffer, BufferNumbers};
+use itoa::Buffer as Digits;
 use mmt_base::OutOfMemory;
+use mmt_fields::put_bytes;
 use mmt_hear::{Heard, Hearer};
 use mmt_io::Port;
 use mmt_model::{FlowChoice, Params};
 use mmt_stream::{Consumer, Halt};
-use std::alloc::{AllocError, Global};
+use mmt_words::put_number;
+use std::alloc::Global;
 use std::marker::Model;
 
 // What the command has made of the packets of a stream so far.
 #[derive(Drop)]
 struct Seen {
-    alloc: Global,
     flow: FlowChoice,
     hearer: Hearer,
     buffer: Buffer,
@@ -34,22 +36,25 @@ impl Model for Seen {
     ghost view = { λ c. record { flow = c.flow; table = c.hearer; buffer = c.buffer; refused = c.refused } };
 }
 
-// The line of these numbers.
-fn line(alloc: Global, numbers: &BufferNumbers, refused: u64) -> Result<String, AllocError>
-    ensures { IfOk result (λ line. string_bytes line ≡ line_of (record { heard = numbers.now.heard; stored = numbers.now.counts.stored; late = numbers.now.counts.late; repeats = numbers.now.counts.repeats; full = numbers.now.counts.full; refused = refused }) numbers.now.most) }
+// How many bytes the line has at most.
+const LINE: usize = 260;
+
+// Appends the line of these numbers.
+#[tactic(auto, using(std::proofs::Common::append_assoc))]
+fn put_line(out: &mut Vec<u8>, numbers: &BufferNumbers, refused: u64)
+    requires empty { out.old.items ≡ [] }
+    requires room { LINE ≤ vec_capacity out.old }
+    ensures { out.new.items ≡ line_of (record { heard = numbers.now.heard; stored = numbers.now.counts.stored; late = numbers.now.counts.late; repeats = numbers.now.counts.repeats; full = numbers.now.counts.full; refused = refused }) numbers.now.most }
 {
-    let BufferNumbers {
-        heard,
-        counts,
-        most,
-    } = *numbers;
-    let stored = counts.stored;
-    let late = counts.late;
-    let repeats = counts.repeats;
-    let full = counts.full;
-    format!(in alloc;
-        "heard {heard} stored {stored} late {late} repeat {repeats} full {full} refused {refused} peak {most}\n"
-    )
+    let mut digits = Digits::new();
+    put_number(&mut digits, out, b"heard ", numbers.heard);
+    put_number(&mut digits, out, b" stored ", numbers.counts.stored);
+    put_number(&mut digits, out, b" late ", numbers.counts.late);
+    put_number(&mut digits, out, b" repeat ", numbers.counts.repeats);
+    put_number(&mut digits, out, b" full ", numbers.counts.full);
+    put_number(&mut digits, out, b" refused ", refused);
+    put_number(&mut digits, out, b" peak ", numbers.most as u64);
+    put_bytes(out, b"\n");
 }
 
 impl Seen {
@@ -64,7 +69,6 @@ impl Seen {
         let hearer = Hearer::new(alloc)?;
         let buffer = Buffer::new(alloc, params)?;
         Ok(Seen {
-            alloc,
             flow,
             hearer,
             buffer,
@@ -89,11 +93,13 @@ impl Seen {
         }
     }
 
-    // The line at the end of the stream.
-    fn last_line(&self) -> Result<String, AllocError>
-        ensures { IfOk result (λ line. string_bytes line ≡ line_of (numbers_in self.now) self.now.buffer.pool.peak) }
+    // Appends the line at the end of the stream.
+    fn put_last_line(&self, out: &mut Vec<u8>)
+        requires empty { out.old.items ≡ [] }
+        requires room { LINE ≤ vec_capacity out.old }
+        ensures { out.new.items ≡ line_of (numbers_in self.now) self.now.buffer.pool.peak }
     {
-        line(self.alloc, &self.buffer.numbers(), self.refused)
+        put_line(out, &self.buffer.numbers(), self.refused);
     }
 }
 
@@ -102,28 +108,34 @@ impl Seen {
 pub struct PeakCommand {
     // in a box, so that little is moved with each packet
     seen: Box<Seen>,
+    // empty until the end, which takes no memory: it has room for the line
+    line: Vec<u8>,
 }
 
 impl Model for PeakCommand {
+    ghost use Rattle.std.specs.Prelude.{◌≡◌, ◌≤◌, [], vec_capacity};
     ghost use Rattle.mmt_peak.specs.Commanding.{PeakState};
 
     ghost Value = { PeakState };
 
     ghost view = { λ c. c.seen.value };
+
+    ghost invariant = { λ c. (c.line.items ≡ []) × (260 ≤ vec_capacity c.line) };
 }
 
 impl PeakCommand {
     ghost use Rattle.mmt_peak.specs.Commanding.{HasSeen};
 
     /// The command at the start of a stream, for a flow and a buffer of `params.bound` payload bytes,
-    /// with its window and delay in ticks.
+    /// with its window and delay in ticks. It takes the room for the line.
     pub fn new(alloc: Global, flow: FlowChoice, params: Params) -> Result<PeakCommand, OutOfMemory>
         ensures flow { IfOk result (λ c. c.flow ≡ flow) }
         ensures params { IfOk result (λ c. c.buffer.params ≡ params) }
         ensures seen { IfOk result (λ c. HasSeen [] c) }
     {
         let seen = Box::new(alloc, Seen::new(alloc, flow, params)?)?;
-        Ok(PeakCommand { seen })
+        let line = Vec::with_capacity(alloc, LINE)?;
+        Ok(PeakCommand { seen, line })
     }
 }
 
@@ -151,11 +163,9 @@ impl<P: Port> Consumer<P> for PeakCommand {
     }
 
     fn finish(self, port: &mut P) -> Result<(), Halt> {
-        let line = match self.seen.last_line() {
-            Ok(line) => line,
-            Err(_) => return Err(Halt::OutOfMemory),
-        };
-        match port.write(line.as_bytes()) {
+        let PeakCommand { seen, mut line } = self;
+        seen.put_last_line(&mut line);
+        match port.write(&line) {
             Ok(()) => Ok(()),
             Err(_) => Err(Halt::WriteFault),
         }

@@ -41,7 +41,7 @@ pub asset : (file : Option (List ℕ)) (s : Spot) (a : Asset) (end : ℕ) → Al
 asset None s a end le e = absurd (cc)
 asset (Some bytes) s a end le e = of_bytes bytes end (grind (arith, nat_tests)) s a le
 
--- where so many items end by a place, and the next one by one that isn't before it
+-- where N items end by a place, and the next one by one that isn't before it
 pub next : {A : Type 0} (P : ℕ → A → Type 0) → ((m n : ℕ) (x : A) → m ≤ n → P m x → P n x) → (xs : List A) (i : ℕ) (x : A) (m n : ℕ) → i < length xs → x ≡ get_or xs i x → m ≤ n → All (P m) (take i xs) → P n x → All (P n) (take (i + 1) xs)
 next P weaker xs i x m n lt is le all one =
     subst (All (P n)) (sym (take_more xs i x lt ∙ ap (λ y. take i xs ++ y ∷ []) (sym is)))

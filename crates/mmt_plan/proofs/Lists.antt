@@ -9,14 +9,14 @@ use Rattle.mmt_plan.specs.declared.ends.PlanEnd.{PlanEnd}
 use Rattle.mmt_plan.specs.declared.ends.PlanEnd.TheVariants.{Refused, ReadFault, OutOfMemory}
 use Rattle.mmt_plan.specs.declared.ends.Refusal.{Refusal}
 
--- the item at a place stands before those that are left behind it
+-- the item at a place stands before those that are left after it
 pub left : (vs : List Value) (n : ℕ) (v : Value) → n < length vs → v ≡ get_or vs n v → items_view (drop n vs) ≡ item (view v) (items_view (drop (n + 1) vs))
 left vs n v lt is = rw (add-one, drop-cons vs n v lt, ← is)
 
 pub nothing_left : (vs : List Value) (n : ℕ) → length vs ≤ n → items_view (drop n vs) ≡ no_items
 nothing_left vs n h = rw (drop_all n vs h)
 
--- so many items are read, and these are what they are
+-- N items are read, and these are what they are
 pub record HasRead {A : Type 0} (read : ℕ → Data → Result A Refusal) (vs : List Value) (done : List A) (n : ℕ) : Type 0 where
   pub is : each read 0 (items_view vs) ≡ ok_map (λ xs. done ++ xs) (each read n (items_view (drop n vs)))
 

@@ -11,7 +11,7 @@ use Rattle.mmt_plan.specs.declared.ends.PlanEnd.{PlanEnd}
 use Rattle.mmt_plan.specs.declared.ends.PlanEnd.TheVariants.{Refused, ReadFault, OutOfMemory}
 use Rattle.mmt_plan.specs.declared.ends.Refusal.{Refusal}
 
--- so many items pass
+-- N items pass
 pub record HasPassed {A : Type 0} (check : ℕ → A → Result (Unit {0}) Refusal) (xs : List A) (n : ℕ) : Type 0 where
   pub is : each_checked check 0 xs ≡ each_checked check n (drop n xs)
 

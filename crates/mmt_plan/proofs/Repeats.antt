@@ -5,7 +5,7 @@ use Rattle.std.specs.List.{list_any}
 use Rattle.indexmap.specs.IndexSet.{insert_key}
 use Rattle.mmt_plan.specs.Twice.{first_twice}
 
--- none of so many numbers stood before, and these are they
+-- none of N numbers stood before, and these are they
 pub record HasSeen {A : Type 0} (f : A → ℕ) (xs : List A) (seen : List ℕ) (n : ℕ) : Type 0 where
   pub is : first_twice [] 0 (map f xs) ≡ first_twice seen n (map f (drop n xs))
 

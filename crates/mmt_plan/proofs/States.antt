@@ -16,7 +16,7 @@ front done p = (done ++ p.0, p.1)
 abbrev pub with_first : {S A : Type 0} → A → List A × S → Result (List A × S) Refusal
 with_first x p = Ok (x ∷ p.0, p.1)
 
--- so many items are read, these are what they are, and this is the state behind them
+-- N items are read, these are what they are, and this is the state after them
 pub record HasReadTo {S A : Type 0} (read : S → ℕ → Data → Result (A × S) Refusal) (first : S) (vs : List Value) (done : List A) (state : S) (n : ℕ) : Type 0 where
   pub is : each_with read first 0 (items_view vs) ≡ ok_map (front done) (each_with read state n (items_view (drop n vs)))
 

@@ -26,7 +26,7 @@ pub record IsMpuOfFile (m : Mpu) : Type 0 where
   pub few : length m.units < 2 ^ 32
   pub units : All IsUnitOfFile m.units
 
--- a file that may be there has so many bytes
+-- a file that may be there has N bytes
 abbrev pub has_bytes : Option (List ℕ) → ℕ → Bool
 has_bytes None count = false
 has_bytes (Some bytes) count = nat_le count (length bytes)

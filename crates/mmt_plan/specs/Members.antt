@@ -69,7 +69,7 @@ array_at least most = right_member (as_array_of least most)
 unfoldable pub array_from_at : ℕ → Spot → ℕ → List ℕ → Data → Result Items Refusal
 array_from_at least = right_member (as_array_from least)
 
--- a member that is a list of so many items, each read by its number in the object
+-- a member that is a list of N items, each read by its number in the object
 unfoldable pub list_at : {A : Type 0} → (Spot → ℕ → Data → Result A Refusal) → ℕ → ℕ → Spot → ℕ → List ℕ → Data → Result (List A) Refusal
 list_at read least most s field name d = do
   items ← array_at least most s field name d

@@ -44,7 +44,7 @@ plan file = do
   bytes ← bytes_of file
   programme_in bytes
 
--- what a function answers is a reading, want of memory and faults aside
+-- what a function answers is a reading, out of memory and faults aside
 abbrev pub IsOutcome : {A : Type 0} → Result A Refusal → Result A PlanEnd → Type 0
 IsOutcome reading (Ok x) = reading ≡ Ok x
 IsOutcome reading (Err (Refused reason place)) = reading ≡ Err (record { reason = reason; place = place })

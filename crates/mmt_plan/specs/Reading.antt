@@ -37,7 +37,7 @@ each_with read state n (item d ds) = do
   xs ← each_with read x.1 (n + 1) ds
   Ok (x.0 ∷ xs.0, xs.1)
 
--- what a function answers is this reading, want of memory aside
+-- what a function answers is this reading, out of memory aside
 abbrev pub IsAnswer : {A : Type 0} → Result A Refusal → Result A PlanEnd → Type 0
 IsAnswer reading (Ok x) = reading ≡ Ok x
 IsAnswer reading (Err (Refused reason place)) = reading ≡ Err (record { reason = reason; place = place })

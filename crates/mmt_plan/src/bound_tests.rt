@@ -131,7 +131,7 @@ fn an_asset_has_an_mpu_and_an_mpu_a_unit(rt: HostRuntime) -> Result<(), Fail> {
     Ok(())
 }
 
-// A text so many times.
+// A text N times.
 fn repeated(alloc: Global, text: &str, times: u32) -> Result<String, Fail> {
     let mut all = String::new(alloc);
     for _ in 0..times {

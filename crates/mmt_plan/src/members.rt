@@ -58,7 +58,7 @@ pub fn number(
     }
 }
 
-/// The member that is a text of so many bytes.
+/// The member that is a text of N bytes.
 #[tactic(auto, unfolding(crate::specs::Members::text_at))]
 pub fn text<'v>(
     object: &'v Value,
@@ -89,7 +89,7 @@ pub fn boolean(object: &Value, spot: Spot, field: u32, name: &str) -> Result<boo
     }
 }
 
-/// The member that is an array of so many items.
+/// The member that is an array of N items.
 #[tactic(auto, using(crate::proofs::Keys::sizes), unfolding(crate::specs::Members::array_at))]
 pub fn array<'v>(
     object: &'v Value,

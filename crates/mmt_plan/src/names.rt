@@ -34,7 +34,7 @@ impl FileNames {
         }
     }
 
-    /// The number of a file by its name. A new name goes last. It is refused for want of memory alone; then
+    /// The number of a file by its name. A new name goes last. It is refused only when out of memory; then
     /// the names are as they were.
     pub fn number_of(&mut self, alloc: Global, name: &str) -> Result<u32, OutOfMemory>
         requires { length self.old < 2 ^ 32 }

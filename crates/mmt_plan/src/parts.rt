@@ -57,7 +57,7 @@ pub fn read_each<P: Part>(
     Ok(items)
 }
 
-/// The member that is a list of so many items.
+/// The member that is a list of N items.
 #[tactic(auto, unfolding(crate::specs::Members::list_at))]
 pub fn list<P: Part>(
     alloc: Global,

@@ -175,7 +175,7 @@ fn a_read_that_fails_ends_the_reading(rt: HostRuntime) -> Result<(), Fail> {
 }
 
 // The first row of a table that is wrong, with what is printed, or no text. A row is `LENGTH PRINTED`:
-// what is printed for the files of a plan where `v.bin` has so many bytes.
+// what is printed for the files of a plan where `v.bin` has N bytes.
 fn wrong_length(alloc: Global, text: &str, rows: &str) -> Result<String, Fail> {
     for row in rows.lines() {
         let (length, want) = row.split_once(" ").ok_or("no row")?;

@@ -210,7 +210,7 @@ fn texts_that_are_no_json_are_told(rt: HostRuntime) -> Result<(), Fail> {
     Ok(())
 }
 
-// The worked plan with a member that nests so many arrays, in an object that is one level itself.
+// The worked plan with a member that nests N arrays, in an object that is one level itself.
 fn nested(alloc: Global, levels: usize) -> Result<String, Fail> {
     let open = String::from_utf8(vec![in alloc; b'['; levels]?)
         .ok()

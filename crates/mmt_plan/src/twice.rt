@@ -35,7 +35,7 @@ impl Numbered for Mpu {
 }
 
 /// The place of the first item whose number an earlier one has. It takes memory for the numbers, and
-/// is refused for want of memory alone.
+/// is refused only when out of memory.
 pub fn first_repeat<T: Numbered>(alloc: Global, items: &[T]) -> Result<Option<u32>, OutOfMemory>
     requires { length items.now < 2 ^ 32 }
     ensures { IfOk result (λ place. place ≡ first_twice [] 0 (map T.number_of items.now)) }

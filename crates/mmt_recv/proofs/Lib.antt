@@ -12,3 +12,4 @@ pub mod Next
 pub mod Over
 pub mod Received
 pub mod Ending
+pub mod Refusing

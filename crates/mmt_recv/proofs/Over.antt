@@ -44,7 +44,7 @@ over_values s hs t o is = values_are (history s.config hs) (tuned s.config hs) t
 pub over_none : (s : State) (hs : List HeardAt) → IsOver s hs → s.tuned ≡ None → tuned s.config hs ≡ None
 over_none s hs o is = not_tuned (history s.config hs) (tuned s.config hs) (sym is ∙ o.tuning)
 
--- the clock before a packet behind a session that has begun
+-- the clock before a packet after a session that has begun
 before_is : (config : Config) (hs : List HeardAt) (values : Params) (h : Heard) → tuned config hs ≡ Some values → clock_of (history config hs) ≡ before_of h (history config hs)
 unfolding tuned
 before_is config [] values h is = absurd cc

@@ -83,7 +83,7 @@ either : (o : Option Params) → (o ≡ None) ⊎ ((values : Params) × (o ≡ S
 either None = inl refl
 either (Some values) = inr (values, refl)
 
--- behind a session that has begun
+-- after a session that has begun
 units_behind : (config : Config) (hs : List HeardAt) (h : HeardAt) (values : Params) → tuned config hs ≡ Some values
     → units_out config (history config (h ∷ hs)) (tuned config (h ∷ hs)) ≡ units_out config (history config hs) (tuned config hs) ++ handed_at config hs h (tuned config (h ∷ hs))
 units_behind config hs h values is =

@@ -16,7 +16,7 @@ pub record KeptAs (r : Params) (clock : ℕ) (old : Holding) (p : Kept) (becomes
   pub bound : new.bound ≡ old.bound
   pub peak : new.peak ≡ max old.peak (held new.kept)
 
--- the answer tells of the packet's outcome, Late with the clock, Full with the bytes held and the packet's own; for want of memory nothing is said
+-- the answer tells of the packet's outcome, Late with the clock, Full with the bytes held and the packet's own; when out of memory nothing is said
 abbrev pub Keeps : ℕ → ℕ → Holding → Kept → Result Span NotStored → Holding → Type 0
 Keeps delay clock old p (Ok span) new = (span ≡ span_of p) × ((window : ℕ) → KeptAs (record { bound = old.bound; window = window; delay = delay }) clock old p Outcome.Stored new)
 Keeps delay clock old p (Err (why.Late now)) new = (now.0 ≡ clock) × ((window : ℕ) → KeptAs (record { bound = old.bound; window = window; delay = delay }) clock old p Outcome.Late new)
@@ -24,7 +24,7 @@ Keeps delay clock old p (Err why.Repeat) new = (window : ℕ) → KeptAs (record
 Keeps delay clock old p (Err (why.Full sum size)) new = (sum ≡ held old.kept) × (size ≡ length p.payload) × ((window : ℕ) → KeptAs (record { bound = old.bound; window = window; delay = delay }) clock old p Outcome.Full new)
 Keeps delay clock old p (Err why.OutOfMemory) new = Unit {0}
 
--- a claim for every answer but want of memory
+-- a claim for every answer but out of memory
 abbrev pub UnlessNoMemory : Result Span NotStored → Type 0 → Type 0
 UnlessNoMemory (Ok span) claim = claim
 UnlessNoMemory (Err (why.Late now)) claim = claim

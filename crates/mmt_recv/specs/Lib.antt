@@ -5,3 +5,4 @@ pub mod Keeping
 pub mod Taking
 pub mod Saying
 pub mod Places
+pub mod Written

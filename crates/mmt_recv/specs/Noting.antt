@@ -70,7 +70,7 @@ untuned_notes bound h = if is_signalling h.packet.kind h.packet.packet_id then u
 
 -- ---- from the packet that tunes on
 
--- a packet by its outcome: a note where it is not stored, and else what its messages say (this project's rule)
+-- a packet by its outcome: a note where it is not stored, otherwise what its messages say (this project's rule)
 abbrev pub outcome_notes : ℕ → ℕ → ℕ → HeardAt → List PlacedNote → Outcome → List PlacedNote
 outcome_notes now held length h said Outcome.Unopened = []
 outcome_notes now held length h said Outcome.Late = record { place = h.place; note = notes.Late (record { 0 = now }) } ∷ []
@@ -116,7 +116,7 @@ notes_by config older place (Hearing.Heard p from) = heard_notes config older (r
 notes_by config older place Hearing.NotOurs = []
 notes_by config older place (Hearing.Refusal at why) = record { place = place + at; note = notes.Hearing why } ∷ []
 
--- the notes of a packet behind older ones (this project's rule)
+-- the notes of a packet after older ones (this project's rule)
 unfoldable pub notes_of_packet : Config → List Placed → Placed → List PlacedNote
 notes_of_packet config older p = notes_by config (heard_of config.flow older) p.place (hearing config.flow (packets_of older) p.packet)
 

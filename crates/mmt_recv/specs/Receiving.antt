@@ -87,7 +87,7 @@ abbrev pub handed_at : Config → List HeardAt → HeardAt → Option Params →
 handed_at config older h None = []
 handed_at config older h (Some values) = handed_of config values (heard_as h.packet) (history config older)
 
--- what is written and noted at a heard packet behind older ones (this project's rule)
+-- what is written and noted at a heard packet after older ones (this project's rule)
 abbrev pub heard_more : Config → List HeardAt → HeardAt → Output
 heard_more config older h = record { written = records (handed_at config older h (tuned config (h ∷ older))); noted = lines_of (heard_notes config older h (tuned config (h ∷ older))) }
 
@@ -97,7 +97,7 @@ handed_by config older place (Hearing.Heard p from) = handed_at config older (re
 handed_by config older place Hearing.NotOurs = []
 handed_by config older place (Hearing.Refusal at why) = []
 
--- what is written and noted at a packet behind older ones (this project's rule)
+-- what is written and noted at a packet after older ones (this project's rule)
 unfoldable pub more : Config → List Placed → Placed → Output
 more config older p = record {
   written = records (handed_by config (heard_of config.flow older) p.place (hearing config.flow (packets_of older) p.packet));
@@ -114,7 +114,7 @@ with_outcome Outcome.Repeat n = record { late = n.late; repeat = counted (n.repe
 with_outcome Outcome.Full n = record { late = n.late; repeat = n.repeat; full = counted (n.full + 1) }
 with_outcome Outcome.Stored n = n
 
--- an amount with another behind it
+-- an amount with another after it
 abbrev pub handed_more : Handed → Handed → Handed
 handed_more before later = record { units = counted (before.units + later.units); bytes = counted (before.bytes + later.bytes) }
 

@@ -27,19 +27,19 @@ peak_by config values history = peak (rules_by config values) (start_of history)
 abbrev pub entries_by : Config → Params → List Heard → List Entry
 entries_by config values history = entries (reading_of config).names_by (rules_by config values) (start_of history) history
 
--- what is still kept at a packet behind older ones, before it is stored itself
+-- what is still kept at a packet after older ones, before it is stored itself
 abbrev pub rest_of : Config → Params → Heard → List Heard → List Heard
 rest_of config values h older = rest_at (rules_by config values) h older
 
--- what becomes of a packet behind older ones
+-- what becomes of a packet after older ones
 abbrev pub outcome_of : Config → Params → Heard → List Heard → Outcome
 outcome_of config values h older = outcome_at (rules_by config values) h older
 
--- which entries live at a packet behind older ones, before it names any
+-- which entries live at a packet after older ones, before it names any
 abbrev pub live_of : Config → Params → Heard → List Heard → List Entry
 live_of config values h older = forget (before_of h older) (clock_of (h ∷ older)) (entries_by config values older)
 
--- what is handed out at a packet behind older ones
+-- what is handed out at a packet after older ones
 abbrev pub handed_of : Config → Params → Heard → List Heard → List Presentation
 handed_of config values h older = handed (reading_of config) (rules_by config values) (start_of (h ∷ older)) h older
 

@@ -34,12 +34,13 @@ pub struct Receiver {
     pool: Pool,
     names: Names,
     runs: Runs,
+    // In it a message in parts is joined: at most 131,072 bytes.
     message: Vec<u8>,
     counts: Summary,
 }
 
 impl Model for Receiver {
-    ghost use Rattle.std.specs.Prelude.{◌≡◌, ◌≤◌, length};
+    ghost use Rattle.std.specs.Prelude.{◌≡◌, ◌≤◌, ◌^◌, length};
     ghost use Rattle.mmt_pool.specs.Holding.{held};
     ghost use Rattle.mmt_runs.specs.Told.{IsTold};
     ghost use Rattle.mmt_recv.specs.Receiving.{State};
@@ -57,7 +58,8 @@ impl Model for Receiver {
     } };
 
     ghost invariant = { λ r. IsTold r.runs r.pool.kept r.names × (1 ≤ r.config.timescale) × (r.pool.bound ≡ r.config.bound)
-        × (held r.pool.kept ≤ r.config.bound) × (length r.names.entries ≤ 1024) };
+        × (held r.pool.kept ≤ r.config.bound) × (length r.names.entries ≤ 1024)
+        × (length r.message.items ≤ 2 ^ 17) };
 }
 
 // The counts once more was handed out and a packet had its outcome.
@@ -111,6 +113,7 @@ ghost use Rattle.mmt_output.specs.Records.{records};
 ghost use Rattle.mmt_model.specs.Sessions.{before_of, clock_of};
 ghost use Rattle.mmt_recv.specs.Noting.{lines_of, tuned_notes};
 ghost use Rattle.mmt_recv.specs.Session.{handed_of};
+ghost use Rattle.mmt_recv.specs.Written.{HasWritten};
 
 impl Receiver {
     ghost use Rattle.mmt_recv.specs.Receiving.{Holds};
@@ -146,6 +149,11 @@ impl Receiver {
               written = records (handed_of self.old.config tuned.params (heard_packet packet.now) session);
               noted = lines_of (tuned_notes self.old.config tuned.params session (packet_at place packet.now));
             }) result }
+        ensures written { IsTrue (P.tells port.old) → (session : List HeardPacket) →
+            Holds self.old session tuned.params → tuned.clock.0 ≡ before_of (heard_packet packet.now) session →
+            IsErrOf result Ended.OutOfMemory →
+            HasWritten (P.history port.old) (P.history port.new)
+            (records (handed_of self.old.config tuned.params (heard_packet packet.now) session)) }
     {
         let clock = advance(tuned.clock, packet.time);
         let handed = match advance_to(
@@ -210,6 +218,10 @@ impl Receiver {
         ensures cause { IsErrOf result Ended.WriteFault → Rose (P.write_faults port.old) (P.write_faults port.new) }
         ensures put { IsTrue (P.tells port.old) → (hs : List HeardAt) → IsOver self.old hs →
             Put (P.history port.old) (P.history port.new) (heard_more self.old.config hs (packet_at place packet.now)) result }
+        ensures written { IsTrue (P.tells port.old) → (hs : List HeardAt) → IsOver self.old hs →
+            IsErrOf result Ended.OutOfMemory →
+            HasWritten (P.history port.old) (P.history port.new)
+            (heard_more self.old.config hs (packet_at place packet.now)).written }
     {
         match tuning_values(&self.config, packet) {
             Some(params) => {
@@ -248,6 +260,10 @@ impl Receiver {
         ensures cause { IsErrOf result Ended.WriteFault → Rose (P.write_faults port.old) (P.write_faults port.new) }
         ensures put { IsTrue (P.tells port.old) → (hs : List HeardAt) → IsOver self.old hs →
             Put (P.history port.old) (P.history port.new) (heard_more self.old.config hs (packet_at place packet.now)) result }
+        ensures written { IsTrue (P.tells port.old) → (hs : List HeardAt) → IsOver self.old hs →
+            IsErrOf result Ended.OutOfMemory →
+            HasWritten (P.history port.old) (P.history port.new)
+            (heard_more self.old.config hs (packet_at place packet.now)).written }
     {
         match self.tuned {
             Some(tuned) => self.take_heard(port, place, packet, tuned),
@@ -316,8 +332,8 @@ impl Receiver {
     /// # Errors
     ///
     /// The port failed, or there was no memory: the receiver is used no more then, and what it kept may
-    /// be gone. What was written and noted is a prefix of what belongs to the packet, and the records
-    /// that its clock made due come before anything that takes memory.
+    /// be gone. What was written and noted is a prefix of what belongs to the packet. Out of memory,
+    /// all records that its clock made due were written.
     pub fn receive<P: Port>(&mut self, port: &mut P, place: u64, tlv: &[u8]) -> Result<(), Ended>
         requires whole { IsPacket tlv.now }
         requires bound { place < 2 ^ 63 }
@@ -340,6 +356,11 @@ impl Receiver {
             Fits packet → tlv.now ≡ spelling packet →
             Put (P.history port.old) (P.history port.new)
             (more self.old.config ps (record { place = place; packet = packet })) result }
+        // Out of memory, all records that the packet's clock made due were written.
+        ensures written { IsTrue (P.tells port.old) → (ps : List Placed) (packet : Tlv) → Stands self.old ps →
+            Fits packet → tlv.now ≡ spelling packet → IsErrOf result Ended.OutOfMemory →
+            HasWritten (P.history port.old) (P.history port.new)
+            (more self.old.config ps (record { place = place; packet = packet })).written }
     {
         match self.hearer.hear(&self.config.flow, tlv) {
             Heard::Packet { packet, from } => self.take_any(port, place + from as u64, &packet),
@@ -359,8 +380,8 @@ impl Receiver {
     /// # Errors
     ///
     /// The port failed, or there was no memory: the receiver is gone. What was written and noted is a
-    /// prefix of what belongs to the packet, and the records that its clock made due come before
-    /// anything that takes memory.
+    /// prefix of what belongs to the packet. Out of memory, all records that its clock made due were
+    /// written.
     pub fn push<P: Port>(mut self, port: &mut P, place: u64, tlv: &[u8]) -> Result<Receiver, Ended>
         requires whole { IsPacket tlv.now }
         requires bound { place < 2 ^ 63 }
@@ -379,6 +400,11 @@ impl Receiver {
         ensures put { IsTrue (P.tells port.old) → (ps : List Placed) (packet : Tlv) → Stands self ps →
             Fits packet → tlv.now ≡ spelling packet →
             Put (P.history port.old) (P.history port.new) (more self.config ps (record { place = place; packet = packet })) result }
+        // Out of memory, all records that the packet's clock made due were written.
+        ensures written { IsTrue (P.tells port.old) → (ps : List Placed) (packet : Tlv) → Stands self ps →
+            Fits packet → tlv.now ≡ spelling packet → IsErrOf result Ended.OutOfMemory →
+            HasWritten (P.history port.old) (P.history port.new)
+            (more self.config ps (record { place = place; packet = packet })).written }
     {
         match self.receive(port, place, tlv) {
             Ok(()) => Ok(self),
@@ -435,7 +461,7 @@ impl Receiver {
     ///
     /// # Errors
     ///
-    /// The port failed, and wrote a start of the records.
+    /// The port failed, and wrote a prefix of the records.
     pub fn finish<P: Port>(self, port: &mut P) -> Result<Summary, Failed>
         ensures sends { OnlySends P.tells P.left P.read_faults P.write_faults port.old port.new }
         ensures cause { IsErr result → Rose (P.write_faults port.old) (P.write_faults port.new) }

@@ -39,6 +39,7 @@ fn take_joined<P: Port>(
     ensures sends { OnlySends P.tells P.left P.read_faults P.write_faults port.old port.new }
     ensures cause { IsErrOf result Untold.WriteFault → Rose (P.write_faults port.old) (P.write_faults port.new) }
     ensures told { OnOk result (IsTold runs.new pool.now.kept names.new) }
+    ensures room { length message.old.items ≤ 2 ^ 17 → length message.new.items ≤ 2 ^ 17 }
     ensures names { Learns by.now (findings_of_joined by.now.timescale by.now.tuned (message_of parts.entry))
         names.old names.new result }
     ensures put { Notes P.tells P.history port.old port.new
@@ -69,6 +70,7 @@ fn take_part<P: Port>(
     ensures sends { OnlySends P.tells P.left P.read_faults P.write_faults port.old port.new }
     ensures cause { IsErrOf result Untold.WriteFault → Rose (P.write_faults port.old) (P.write_faults port.new) }
     ensures told { OnOk result (IsTold runs.new pool.now.kept names.new) }
+    ensures room { length message.old.items ≤ 2 ^ 17 → length message.new.items ≤ 2 ^ 17 }
     ensures names { Learns by.now (findings_with by.now.timescale by.now.tuned (map heard pool.now.kept) span)
         names.old names.new result }
     ensures put { Notes P.tells P.history port.old port.new
@@ -80,7 +82,7 @@ fn take_part<P: Port>(
     }
 }
 
-/// Takes what the messages of a payload say where they are whole, and else what the message says that
+/// Takes what the messages of a payload say where they are whole, otherwise what the message says that
 /// the packet of this span makes whole.
 pub(crate) fn take_signals_of<P: Port>(
     port: &mut P,
@@ -97,6 +99,7 @@ pub(crate) fn take_signals_of<P: Port>(
     ensures sends { OnlySends P.tells P.left P.read_faults P.write_faults port.old port.new }
     ensures cause { IsErrOf result Untold.WriteFault → Rose (P.write_faults port.old) (P.write_faults port.new) }
     ensures told { OnOk result (IsTold runs.new pool.now.kept names.new) }
+    ensures room { length message.old.items ≤ 2 ^ 17 → length message.new.items ≤ 2 ^ 17 }
     ensures names { Learns by.now
         (findings_of_signals by.now.timescale by.now.tuned (map heard pool.now.kept)
         span.packet_id span.number (signals found.now))

@@ -152,6 +152,7 @@ fn take_signals<P: Port>(
     ensures sends { OnlySends P.tells P.left P.read_faults P.write_faults port.old port.new }
     ensures cause { IsErrOf result Untold.WriteFault → Rose (P.write_faults port.old) (P.write_faults port.new) }
     ensures told { OnOk result (IsTold runs.new pool.new.kept names.new) }
+    ensures room { length message.old.items ≤ 2 ^ 17 → length message.new.items ≤ 2 ^ 17 }
     ensures bound { pool.new.bound ≡ pool.old.bound }
     ensures takes { OnOk result
         (Takes (rules_at by.now pool.old.bound) pool.old names.old (packet_at by.now.place packet.now) pool.new names.new) }
@@ -205,6 +206,7 @@ pub(crate) fn take_packet<P: Port>(
     ensures sends { OnlySends P.tells P.left P.read_faults P.write_faults port.old port.new }
     ensures cause { IsErrOf result Untold.WriteFault → Rose (P.write_faults port.old) (P.write_faults port.new) }
     ensures told { OnOk result (IsTold runs.new pool.new.kept names.new) }
+    ensures room { length message.old.items ≤ 2 ^ 17 → length message.new.items ≤ 2 ^ 17 }
     ensures bound { pool.new.bound ≡ pool.old.bound }
     ensures takes { OnOk result
         (Takes (rules_at by.now pool.old.bound) pool.old names.old (packet_at by.now.place packet.now) pool.new names.new) }

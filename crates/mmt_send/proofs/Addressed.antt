@@ -50,13 +50,13 @@ squeezed-addressed a call s payload out some context every header e =
 pub at-variant : (a : Addressing) (call : ℕ) (s v : Addresser) → s ≡ v → IsAt a call s → IsAt a call v
 at-variant a call s v e is = subst (IsAt a call) e is
 
--- the head of a TLV packet, and what is behind it
+-- the head of a TLV packet, and what is after it
 pub head-first : (kind : ℕ) (cleared head out body : List ℕ) → cleared ≡ [] → head ≡ cleared ++ spelling (record { kind = kind; body = [] }) → out ≡ head ++ body
     → out ≡ spelling (record { kind = kind; body = [] }) ++ body
 head-first kind cleared head out body none h o =
     o ∙ ap (λ (xs : List ℕ). xs ++ body) (h ∙ ap (λ (xs : List ℕ). xs ++ spelling (record { kind = kind; body = [] })) none)
 
--- the compressed headers, and the payload behind them
+-- the compressed headers, and the payload after them
 squeezed-first : (call : ℕ) (s : Squeezing) (payload : List ℕ) → compressed_spelling (packet_at call s []) ++ payload ≡ compressed_spelling (packet_at call s payload)
 unfolding compressed_spelling
 squeezed-first call s payload = simp append_assoc

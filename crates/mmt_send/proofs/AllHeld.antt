@@ -1,7 +1,6 @@
 -- Where all packets have been sent, no unit is short.
-use Rattle.std.proofs.Common.{◌≡◌, ℕ, ◌+◌, ◌-◌, ◌*◌, ◌<◌, ◌≤◌, true, ◌&&◌, ◌==◌, nat_le, nat_lt, min, List, Option, Result, Ok, Err, OnOk, length, take, get_or, arith, sym, ap, subst}
+use Rattle.std.proofs.Common.{◌≡◌, ℕ, ◌+◌, ◌-◌, ◌*◌, ◌<◌, ◌≤◌, true, ◌&&◌, ◌==◌, nat_le, nat_lt, min, List, ◌∙◌, Option, Result, Ok, Err, OnOk, length, take, get_or, arith, sym, ap, subst}
 use Rattle.std.proofs.lemmas.Bool.{and_parts, eqb-true, leb-true, ltb-true, true≢false}
-use Rattle.mmt_cast.specs.Casting.{cast_of}
 use Rattle.mmt_cast.specs.Sending.{Sending, carried, packet_count, packet_of}
 use Rattle.mmt_cast.specs.Casting.{with_number}
 use Rattle.mmt_cast.proofs.Found.{found}
@@ -12,9 +11,12 @@ use Rattle.mmt_model.specs.Right.{IsRight}
 use Rattle.mmt_model.specs.Survival.{no_packet}
 use Rattle.mmt_model.specs.declared.casts.Carries.{Carries}
 use Rattle.mmt_model.specs.declared.casts.Carries.TheVariants as carries
+use Rattle.mmt_model.specs.declared.casts.Cast.{Cast}
 use Rattle.mmt_model.specs.declared.casts.Sent.{Sent}
 use Rattle.mmt_model.specs.declared.programmes.Programme.{Programme}
 use Rattle.mmt_model.specs.declared.programmes.Unit as model
+use Rattle.mmt_pace.proofs.Alike.{sent-alike}
+use Rattle.mmt_pace.specs.Recast.{IsItsCast}
 use Rattle.mmt_send.specs.Files.{IsSource, bytes_in, bytes_of_unit, files_on}
 use Rattle.mmt_send.specs.Held.{AreHeld, AreWhole, HasPart}
 use Rattle.mmt_send.specs.declared.sources.Source.{Source}
@@ -79,17 +81,18 @@ unfolding with_number packet_of
 after-carries programme x c k p e = ap (λ (q : Sent). q.carries) e
 
 -- a unit's last part is in some packet, so that all of it is there
-pub all-whole : (programme : Programme) (files : ℕ → List ℕ) → IsRight programme → ((n : ℕ) → n < length (cast_of programme).packets → AreHeld programme files (get_or (cast_of programme).packets n no_packet).carries) → AreWhole programme files
-all-whole programme files right held u size got short =
+pub all-whole : (programme : Programme) (cast : Cast) (files : ℕ → List ℕ) → IsRight programme → IsItsCast programme cast → ((n : ℕ) → n < length cast.packets → AreHeld programme files (get_or cast.packets n no_packet).carries) → AreWhole programme files
+all-whole programme cast files right its held u size got short =
     let sent : IsSentIn programme u = sent-in programme (right-programmes-fit.right programme right) u short.known in
     let x : Sending = sent.sending in
     let count : ℕ = packet_count programme x in
     let k : ℕ = count - 1 in
     let some : 1 ≤ count = sent.of.some in
     let at = found programme sent.front sent.back x k sent.is (omega arith) in
-    let carries_it : (get_or (cast_of programme).packets _ no_packet).carries ≡ carried programme x k = after-carries programme x _ k _ at.at in
+    let there = sent-alike programme cast its _ at.of in
+    let carries_it : (get_or cast.packets there.0 no_packet).carries ≡ carried programme x k = there.2 ∙ after-carries programme x _ k _ at.at in
     let has : has_part u k (carried programme x k) ≡ true = sent.of.part k (omega arith) in
-    let part : HasPart programme files u k = held _ at.of u k (subst (λ (c : Carries). has_part u k c ≡ true) (sym carries_it) has) in
+    let part : HasPart programme files u k = held there.0 there.1 u k (subst (λ (c : Carries). has_part u k c ≡ true) (sym carries_it) has) in
     let last : k + 1 ≡ count = omega arith in
     let end : (k + 1) * programme.limit ≡ count * programme.limit = ap (λ (j : ℕ). j * programme.limit) last in
     omega (arith, part, end, sent.of.enough, short.len, short.got, short.short)

@@ -23,6 +23,8 @@ use Rattle.mmt_model.specs.declared.casts.Carries.TheVariants as carries
 use Rattle.mmt_model.specs.declared.casts.Cast.{Cast}
 use Rattle.mmt_model.specs.declared.casts.Sent.{Sent}
 use Rattle.mmt_model.specs.declared.programmes.Programme.{Programme}
+use Rattle.mmt_pace.proofs.Alike.{each-alike}
+use Rattle.mmt_pace.specs.Recast.{IsItsCast}
 use Rattle.mmt_sent.specs.Messages.{is_table}
 use Rattle.mmt_send.specs.Carried.{IsCarried, own_size}
 
@@ -107,10 +109,10 @@ each-packet : (programme : Programme) → IsRight programme → AllByRecursion (
 unfolding with_number packet_of
 each-packet programme right = each-sent programme (λ (p : Sent). IsCarried programme p.carries) (λ a b x k e below. goes programme right.limit_low x k (right-sending programme a b x e) below)
 
-pub each-carried : (programme : Programme) (cast : Cast) (slice : List Sent) (n : ℕ) (d : Sent) → IsRight programme → cast ≡ cast_of programme → slice ≡ cast.packets → n < length slice → IsCarried programme (get_or slice n d).carries
+pub each-carried : (programme : Programme) (cast : Cast) (slice : List Sent) (n : ℕ) (d : Sent) → IsRight programme → IsItsCast programme cast → slice ≡ cast.packets → n < length slice → IsCarried programme (get_or slice n d).carries
 each-carried programme cast slice n d right is e l =
-    subst (λ (xs : List Sent). n < length xs → IsCarried programme (get_or xs n d).carries) (sym (e ∙ ap (λ (c : Cast). c.packets) is))
-    (λ below. each-at (λ (p : Sent). IsCarried programme p.carries) (cast_of programme).packets n d (each-packet programme right) below) l
+    subst (λ (xs : List Sent). n < length xs → IsCarried programme (get_or xs n d).carries) (sym e)
+    (λ below. each-at (λ (p : Sent). IsCarried programme p.carries) cast.packets n d (each-alike programme cast is (λ (p : Sent). IsCarried programme p.carries) (λ tick p h. h) (each-packet programme right)) below) l
 
 pub at-slice : (cast : Cast) (slice : List Sent) (n : ℕ) (d : Sent) → slice ≡ cast.packets → n < length slice → get_or slice n d ≡ get_or cast.packets n no_packet
 at-slice cast slice n d e l = get_or_default slice n d no_packet l ∙ ap (λ (xs : List Sent). get_or xs n no_packet) e

@@ -1,7 +1,6 @@
 -- The payload of a packet by what it carries, from those of its kinds.
 use Rattle.std.proofs.Common.{◌≡◌, false, ℕ, ◌*◌, ◌<◌, ◌≤◌, List, [], ◌∷◌, length, drop, get_or, arith, refl, ap, subst, ◌∙◌}
 use Rattle.std.proofs.lemmas.List.{get_or_default, length-take}
-use Rattle.mmt_cast.specs.Casting.{cast_of}
 use Rattle.mmt_cast.specs.Placing.{all_units}
 use Rattle.mmt_cast.specs.Right.{contents_of, unit_at, unit_bytes}
 use Rattle.mmt_cast.proofs.Reading.{length-units}
@@ -13,6 +12,8 @@ use Rattle.mmt_model.specs.declared.casts.SentUnit.{SentUnit}
 use Rattle.mmt_model.specs.declared.keys.Part.TheVariants as parts
 use Rattle.mmt_model.specs.declared.programmes.Programme.{Programme}
 use Rattle.mmt_mpu.specs.Spelling.{spelling}
+use Rattle.mmt_pace.proofs.Alike.{alike}
+use Rattle.mmt_pace.specs.Recast.{IsItsCast}
 use Rattle.mmt_sent.specs.Payloads.{Message, bytes_of, left, written}
 use Rattle.mmt_sent.specs.Stream.{contents_sent}
 use Rattle.mmt_model.specs.Right.{IsRight}
@@ -26,8 +27,8 @@ pub count-is : (cast : Cast) (slice : List SentUnit) (u : ℕ) (d : SentUnit) �
 unfolding sent_unit
 count-is cast slice u d e l = ap (λ (xs : List SentUnit). (get_or xs u d).count) e ∙ ap (λ (s : SentUnit). s.count) (get_or_default cast.units u d no_sent_unit l)
 
-pub unit-listed : (programme : Programme) (cast : Cast) (u : ℕ) → cast ≡ cast_of programme → u < length (all_units programme) → u < length cast.units
-unit-listed programme cast u is l = omega (arith, l, length-units programme, ap (λ (c : Cast). length c.units) is)
+pub unit-listed : (programme : Programme) (cast : Cast) (u : ℕ) → IsItsCast programme cast → u < length (all_units programme) → u < length cast.units
+unit-listed programme cast u is l = omega (arith, l, length-units programme, (alike programme cast is).units)
 
 -- a unit of at most the limit has one part, which is the whole
 pub whole-written : (programme : Programme) (cast : Cast) (files : ℕ → List ℕ) (u : ℕ) → (unit_at programme u).value.length ≤ programme.limit

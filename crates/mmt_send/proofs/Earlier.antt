@@ -1,5 +1,5 @@
 -- The table copies of a cast stand in the order of their messages: how many stand before one, and where its own stands.
-use Rattle.std.proofs.Common.{◌≡◌, ℕ, zero, suc, ◌+◌, ◌-◌, ◌<◌, ◌≤◌, ◌^◌, Bool, true, false, cond, ltb, List, [], ◌∷◌, ◌++◌, length, take, get_or, arith, refl, sym, ap, ◌∙◌, ⊎_elim}
+use Rattle.std.proofs.Common.{◌≡◌, ℕ, zero, suc, ◌+◌, ◌-◌, ◌<◌, ◌≤◌, ◌^◌, Bool, true, false, cond, ltb, List, [], ◌∷◌, ◌++◌, length, take, get_or, arith, refl, sym, ap, ◌∙◌, subst, ⊎_elim}
 use Rattle.std.proofs.lemmas.Bool.{cases_lt, le-ltb, lt-ltb, ltb-false, ltb-true}
 use Rattle.std.proofs.lemmas.List.{get_or_default, length-take}
 use Rattle.std.proofs.lemmas.List.Sums.{count_by-le-length, sum_by-cons}
@@ -17,6 +17,8 @@ use Rattle.mmt_model.specs.declared.casts.TableCopy.{TableCopy}
 use Rattle.mmt_model.specs.declared.programmes.Programme.{Programme}
 use Rattle.mmt_model.specs.declared.programmes.Signal.{Signal}
 use Rattle.mmt_model.specs.declared.programmes.Signal.TheVariants as signals
+use Rattle.mmt_pace.proofs.Alike.{alike}
+use Rattle.mmt_pace.specs.Recast.{IsItsCast}
 use Rattle.mmt_sent.specs.Messages.{is_table, tables_before}
 
 -- ---- the copies rise
@@ -148,12 +150,29 @@ has-copy programme s i point t l =
     let e : j ≡ i = own-at programme s i j no_table_copy point at.0 at.1 in
     record { place = e; listed = omega (arith, e, at.0) }
 
-copies-are : (programme : Programme) (cast : Cast) → cast ≡ cast_of programme → cast.copies ≡ copies_as_sent programme
-unfolding cast_of
-copies-are programme cast is = ap (λ (c : Cast). c.copies) is
+-- the table copies of a cast are those of the programme's, but for the ticks
+pub record AreCopies (programme : Programme) (slice : List TableCopy) : Type 0 where
+  pub many : length slice ≡ length (copies_as_sent programme)
+  pub copy : (c : ℕ) (d : TableCopy) → (get_or slice c d).signal ≡ (get_or (copies_as_sent programme) c d).signal
+  pub own : (s : ℕ) → copy_place slice s ≡ copy_place (copies_as_sent programme) s
 
-pub slice-is : (programme : Programme) (cast : Cast) (slice : List TableCopy) → cast ≡ cast_of programme → slice ≡ cast.copies → slice ≡ copies_as_sent programme
-slice-is programme cast slice is e = e ∙ copies-are programme cast is
+pub slice-is : (programme : Programme) (cast : Cast) (slice : List TableCopy) → IsItsCast programme cast → slice ≡ cast.copies → AreCopies programme slice
+unfolding cast_of
+slice-is programme cast slice is e =
+    let a = alike programme cast is in
+    subst (AreCopies programme) (sym e) (record { many = a.copies; copy = λ c d. (a.copy c d).signal; own = a.place })
+
+-- so they stand in order, and a search in them ends where one in the programme's does
+pub slice-rises : (programme : Programme) (slice : List TableCopy) → AreCopies programme slice → IsNonDecreasingBy (λ (c : TableCopy). c.signal) slice
+slice-rises programme slice are i j d l b = (let h = rising programme i j d l (omega (arith, b, are.many)) in omega (arith, h, are.copy i d, are.copy j d))
+
+pub slice-point : (programme : Programme) (slice : List TableCopy) (s i : ℕ) → AreCopies programme slice
+    → IsPartitionPoint (λ (c : TableCopy). ltb c.signal s ≡ true) (λ (c : TableCopy). ltb c.signal s ≡ false) slice i
+    → IsPartitionPoint (λ (c : TableCopy). ltb c.signal s ≡ true) (λ (c : TableCopy). ltb c.signal s ≡ false) (copies_as_sent programme) i
+slice-point programme slice s i are point = (
+  λ k d a b. ap (λ (n : ℕ). ltb n s) (sym (are.copy k d)) ∙ point.0 k d a b,
+  λ k d a b. ap (λ (n : ℕ). ltb n s) (sym (are.copy k d)) ∙ point.1 k d a (omega (arith, b, are.many)),
+)
 
 -- in how many parts a table is sent, by its copy
 pub parts-are : (cast : Cast) (slice : List TableCopy) (place s : ℕ) (d : TableCopy) → slice ≡ cast.copies → copy_place cast.copies s ≡ place → place < length cast.copies → (get_or slice place d).count ≡ (table_copy cast (copy_place cast.copies s)).count

@@ -1,4 +1,4 @@
--- What is read of a file: the bytes of a unit, or so many that it is short.
+-- What is read of a file: the bytes of a unit, or fewer where the file is short.
 use Rattle.std.proofs.Common.{◌≡◌, ℕ, ◌+◌, ◌-◌, ◌≤◌, ◌≢◌, min, List, Option, length, take, drop, arith, ap, ap₂, sym, ◌∙◌}
 use Rattle.std.proofs.lemmas.List.{length-drop, length-take, drop-drop, drop-take, take-take, take_all}
 use Rattle.mmt_cast.specs.Right.{unit_at, unit_bytes}

@@ -103,7 +103,7 @@ is-member programme f c k first source right group l is at its here =
       size = ap (λ (h : ℕ). 2 + h + (unit_at programme source.number).value.length) (header-same (unit_at programme source.number) ∙ ap head_length timed) ∙ ap (λ (u : model.Unit). 2 + head_length first.timed + u.length) (sym its.unit);
     }
 
--- ---- so many of the units
+-- ---- N of the units
 
 -- the header of a group's payload
 abbrev pub group_head : Source → MpuHead

@@ -2,7 +2,6 @@
 use Rattle.std.proofs.Common.{◌≡◌, ℕ, ◌+◌, ◌-◌, ◌*◌, ◌<◌, ◌≤◌, ◌^◌, Bool, true, false, min, Option, List, [], ◌∷◌, ◌++◌, length, take, drop, arith, refl, sym, ap, subst, ◌∙◌, ⊎_elim}
 use Rattle.std.proofs.lemmas.Bool.{cases_lt}
 use Rattle.std.proofs.lemmas.List.{length-append, length-drop, length-take, take_all, take_at}
-use Rattle.mmt_cast.specs.Casting.{cast_of}
 use Rattle.mmt_cast.specs.FromRight.{FitsUnit}
 use Rattle.mmt_cast.specs.Placing.{PlacedUnit, all_units, entry_of_mpu}
 use Rattle.mmt_cast.specs.Right.{contents_of, unit_at, unit_bytes}
@@ -22,6 +21,8 @@ use Rattle.mmt_model.specs.declared.keys.UnitKey.TheVariants as keys
 use Rattle.mmt_model.specs.declared.programmes.Programme.{Programme}
 use Rattle.mmt_model.specs.declared.programmes.Unit as model
 use Rattle.mmt_mpu.specs.Spelling.{HeadFits, KeyFits, RanksFit, UnitHead, UnitValue, head_bytes, head_length, lone_bytes, spelling, units_bytes}
+use Rattle.mmt_pace.proofs.Alike.{entry-alike}
+use Rattle.mmt_pace.specs.Recast.{IsItsCast}
 use Rattle.mmt_sent.specs.Messages.{message_bytes}
 use Rattle.mmt_sent.specs.Payloads.{bytes_of}
 use Rattle.mmt_sent.specs.Stream.{contents_sent}
@@ -113,13 +114,13 @@ entry-mpu : (x : PlacedUnit) → (entry_of_mpu x.in_mpu).mpu ≡ x.in_mpu.value.
 unfolding entry_of_mpu
 entry-mpu x = refl
 
-pub source-mpu : (programme : Programme) (cast : Cast) (files : ℕ → List ℕ) (source : Source) → cast ≡ cast_of programme → IsSource programme source → source.mpu ≡ (entry_of_unit cast (contents_sent programme files) source.number).mpu
+pub source-mpu : (programme : Programme) (cast : Cast) (files : ℕ → List ℕ) (source : Source) → IsItsCast programme cast → IsSource programme source → source.mpu ≡ (entry_of_unit cast (contents_sent programme files) source.number).mpu
 source-mpu programme cast files source c is =
     is.mpu ∙ sym (entry-mpu (unit_at programme source.number)) ∙ ap (λ (e : Entry). e.mpu) (sym (entry-of-unit programme files (message_bytes programme) source.number is.known))
-    ∙ ap (λ (k : Cast). (entry_of_unit k (contents_sent programme files) source.number).mpu) (sym c)
+    ∙ ap (λ (e : Entry). e.mpu) (sym (entry-alike programme cast (contents_sent programme files) c source.number))
 
 -- what a part is written with
-pub lone-is : (programme : Programme) (cast : Cast) (files : ℕ → List ℕ) (source : Source) (k : ℕ) (cut : PartOf) (buf : List ℕ) → IsRight programme → cast ≡ cast_of programme → IsSource programme source
+pub lone-is : (programme : Programme) (cast : Cast) (files : ℕ → List ℕ) (source : Source) (k : ℕ) (cut : PartOf) (buf : List ℕ) → IsRight programme → IsItsCast programme cast → IsSource programme source
     → cut.length ≡ min programme.limit (source.unit.now.length - k * programme.limit) → buf ≡ take cut.length (drop (k * programme.limit) (unit_bytes files (unit_at programme source.number)))
     → spelling (part_payload source.mpu source.unit.now cut buf) ≡ bytes_of (lone_written cast (contents_sent programme files) source.number k cut.part cut.left)
 unfolding contents_of

@@ -8,7 +8,6 @@ use Rattle.mmt_model.specs.declared.casts.Cast.{Cast}
 use Rattle.mmt_model.specs.declared.casts.Sent.{Sent}
 use Rattle.mmt_packet.specs.Spelling.{spelling}
 use Rattle.mmt_packet.specs.declared.packet.Kind.{Kind}
-use Rattle.mmt_cast.specs.Casting.{cast_of}
 use Rattle.mmt_model.specs.declared.programmes.Programme.{Programme}
 use Rattle.mmt_base.specs.Ticks.{low}
 use Rattle.mmt_sent.specs.Packets.{addressed, mmtp_at}
@@ -35,14 +34,14 @@ head-long rap kind packet_id time number out old e =
       packet-long rap kind packet_id time number [],
     )
 
--- the header, and the payload behind it
+-- the header, and the payload after it
 pub head-first : (rap : Bool) (kind : Kind) (packet_id time number : ℕ) (payload : List ℕ)
     → spelling (record { counter = None; rap = rap; reserved = 0; kind = kind; packet_id = packet_id; time = time; number = number; extension = None; payload = [] }) ++ payload
     ≡ spelling (record { counter = None; rap = rap; reserved = 0; kind = kind; packet_id = packet_id; time = time; number = number; extension = None; payload = payload })
 unfolding spelling
 head-first rap kind packet_id time number payload = simp append_assoc
 
--- the header of a packet of the cast, and its payload behind it
+-- the header of a packet of the cast, and its payload after it
 pub packet-made : (cast : Cast) (contents : Contents) (p : Sent) (kind : Kind) (time : ℕ) (out head old : List ℕ)
     → head ≡ old ++ spelling (record { counter = None; rap = p.rap; reserved = 0; kind = kind; packet_id = p.packet_id; time = time; number = p.number; extension = None; payload = [] })
     → kind ≡ kind_of (written cast contents p.carries) → time ≡ low p.at.0 → out ≡ head ++ bytes_of (written cast contents p.carries) → out ≡ old ++ spelling (mmtp_of cast contents p)
@@ -66,18 +65,17 @@ unfolding mmtp_at
 at-place cast contents n p e = ap (λ (q : Sent). mmtp_of cast contents q) e
 
 -- the TLV packet at a place of the stream
-pub packet-is : (programme : Programme) (cast : Cast) (files : ℕ → List ℕ) (n : ℕ) (p : Sent) (outer made : List ℕ) → cast ≡ cast_of programme → p ≡ get_or cast.packets n no_packet
-    → made ≡ spelling (mmtp_of cast (contents_sent programme files) p) → outer ≡ tlv_spelling (addressed (addressing_of programme) n made) → outer ≡ tlv_spelling (packet_sent programme files n)
+pub packet-is : (programme : Programme) (cast : Cast) (files : ℕ → List ℕ) (n : ℕ) (p : Sent) (outer made : List ℕ) → p ≡ get_or cast.packets n no_packet
+    → made ≡ spelling (mmtp_of cast (contents_sent programme files) p) → outer ≡ tlv_spelling (addressed (addressing_of programme) n made) → outer ≡ tlv_spelling (packet_sent programme cast files n)
 unfolding packet_sent
-packet-is programme cast files n p outer made is e m o =
+packet-is programme cast files n p outer made e m o =
     o ∙ ap (λ (payload : List ℕ). tlv_spelling (addressed (addressing_of programme) n payload)) (m ∙ ap spelling (at-place cast (contents_sent programme files) n p e))
-    ∙ ap (λ (c : Cast). tlv_spelling (addressed (addressing_of programme) n (spelling (mmtp_at c (contents_sent programme files) n)))) is
 
 -- the same of one that was begun before its MMTP packet was made
-pub begun-is : (programme : Programme) (cast : Cast) (files : ℕ → List ℕ) (n : ℕ) (p : Sent) (head made outer : List ℕ) → cast ≡ cast_of programme → p ≡ get_or cast.packets n no_packet
+pub begun-is : (programme : Programme) (cast : Cast) (files : ℕ → List ℕ) (n : ℕ) (p : Sent) (head made outer : List ℕ) → p ≡ get_or cast.packets n no_packet
     → made ≡ head ++ spelling (mmtp_of cast (contents_sent programme files) p)
     → ((payload : List ℕ) → IsBegun (head ++ payload) (addressed (addressing_of programme) n payload))
-    → ((packet : Tlv) → IsBegun made packet → outer ≡ tlv_spelling packet) → outer ≡ tlv_spelling (packet_sent programme files n)
-begun-is programme cast files n p head made outer is e m begins ends =
+    → ((packet : Tlv) → IsBegun made packet → outer ≡ tlv_spelling packet) → outer ≡ tlv_spelling (packet_sent programme cast files n)
+begun-is programme cast files n p head made outer e m begins ends =
     let payload : List ℕ = spelling (mmtp_of cast (contents_sent programme files) p) in
-    packet-is programme cast files n p outer payload is e refl (ends (addressed (addressing_of programme) n payload) (m ∙ begins payload))
+    packet-is programme cast files n p outer payload e refl (ends (addressed (addressing_of programme) n payload) (m ∙ begins payload))

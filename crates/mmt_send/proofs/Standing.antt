@@ -1,7 +1,7 @@
 -- A unit of a programme stands at its places: those of its asset, its MPU and itself, which the cast tells.
 use Rattle.std.proofs.Common.{◌≡◌, ℕ, ◌+◌, ◌<◌, List, [], length, get_or, arith, sym, ap, subst, ◌∙◌}
 use Rattle.std.proofs.lemmas.List.{get_or_default, get_or_read}
-use Rattle.mmt_cast.specs.Casting.{cast_of, unit_as_sent}
+use Rattle.mmt_cast.specs.Casting.{unit_as_sent}
 use Rattle.mmt_cast.specs.Placing.{PlacedUnit, all_mpus, all_units, units_of}
 use Rattle.mmt_cast.specs.Right.{mpu_at, no_mpu, no_placed_mpu, unit_at}
 use Rattle.mmt_cast.specs.FromRight.{FitsUnit}
@@ -18,6 +18,8 @@ use Rattle.mmt_model.specs.declared.programmes.Asset.{Asset}
 use Rattle.mmt_model.specs.declared.programmes.Mpu.{Mpu}
 use Rattle.mmt_model.specs.declared.programmes.Programme.{Programme}
 use Rattle.mmt_model.specs.declared.programmes.Unit as model
+use Rattle.mmt_pace.proofs.Alike.{IsUnitAs, alike}
+use Rattle.mmt_pace.specs.Recast.{IsItsCast}
 
 -- a unit, for places outside an MPU
 abbrev pub no_unit : model.Unit
@@ -46,17 +48,17 @@ its-mpu programme u l =
 -- the cast tells the places of a unit
 pub record IsTold (programme : Programme) (cast : Cast) (u : ℕ) : Type 0 where
   pub listed : u < length cast.units
-  pub sent : (sent : List SentUnit) (d : SentUnit) → sent ≡ cast.units → get_or sent u d ≡ unit_as_sent programme u (unit_at programme u)
+  pub sent : (sent : List SentUnit) (d : SentUnit) → sent ≡ cast.units → IsUnitAs (get_or sent u d) (unit_as_sent programme u (unit_at programme u))
 
-pub told : (programme : Programme) (cast : Cast) (u : ℕ) → cast ≡ cast_of programme → u < length (all_units programme) → IsTold programme cast u
+pub told : (programme : Programme) (cast : Cast) (u : ℕ) → IsItsCast programme cast → u < length (all_units programme) → IsTold programme cast u
 unfolding sent_unit
 told programme cast u is l =
-    let listed : u < length cast.units = omega (arith, l, length-units programme, ap (λ (c : Cast). length c.units) is) in
+    let listed : u < length cast.units = omega (arith, l, length-units programme, (alike programme cast is).units) in
     record {
       listed = listed;
       sent = λ sent d e.
-          get_or_default sent u d no_sent_unit (subst (λ (xs : List SentUnit). u < length xs) (sym e) listed) ∙ ap (λ (xs : List SentUnit). get_or xs u no_sent_unit) e
-          ∙ ap (λ (c : Cast). get_or c.units u no_sent_unit) is ∙ unit-sent programme u l;
+          subst (λ (s : SentUnit). IsUnitAs s (unit_as_sent programme u (unit_at programme u))) (sym (get_or_default sent u d no_sent_unit (subst (λ (xs : List SentUnit). u < length xs) (sym e) listed) ∙ ap (λ (xs : List SentUnit). get_or xs u no_sent_unit) e))
+          (subst (IsUnitAs (get_or cast.units u no_sent_unit)) (unit-sent programme u l) ((alike programme cast is).unit u));
     }
 
 -- where a unit stands
@@ -87,21 +89,21 @@ stands programme u right l =
 
 -- ---- what a look-up finds
 
-module _ (programme : Programme) (cast : Cast) (u : ℕ) (right : IsRight programme) (is : cast ≡ cast_of programme) (l : u < length (all_units programme)) (sents : List SentUnit) (e : sents ≡ cast.units) (d : SentUnit) where
-  found : get_or sents u d ≡ unit_as_sent programme u (unit_at programme u)
+module _ (programme : Programme) (cast : Cast) (u : ℕ) (right : IsRight programme) (is : IsItsCast programme cast) (l : u < length (all_units programme)) (sents : List SentUnit) (e : sents ≡ cast.units) (d : SentUnit) where
+  found : IsUnitAs (get_or sents u d) (unit_as_sent programme u (unit_at programme u))
   found = (told programme cast u is l).sent sents d e
 
   asset-place : (get_or sents u d).asset ≡ (unit_at programme u).in_mpu.asset
   unfolding unit_as_sent
-  asset-place = ap (λ (s : SentUnit). s.asset) found
+  asset-place = found.asset
 
   mpu-place : (get_or sents u d).mpu ≡ (unit_at programme u).in_mpu.mpu
   unfolding unit_as_sent
-  mpu-place = ap (λ (s : SentUnit). s.mpu) found
+  mpu-place = found.mpu
 
   unit-place : (get_or sents u d).unit ≡ (unit_at programme u).unit
   unfolding unit_as_sent
-  unit-place = ap (λ (s : SentUnit). s.unit) found
+  unit-place = found.unit
 
   at : Stands programme (unit_at programme u)
   at = stands programme u right l

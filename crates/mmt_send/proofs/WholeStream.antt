@@ -1,10 +1,10 @@
--- What has been written after so many packets of a stream.
+-- What has been written after N packets of a stream.
 use Rattle.std.proofs.Common.{◌≡◌, ◌⊎◌, inl, inr, ℕ, zero, suc, ◌+◌, ◌-◌, ◌<◌, ◌≤◌, Bool, IsTrue, List, [], ◌∷◌, ◌++◌, length, Option, Result, Ok, Err, OnErr, arith, refl, sym, ap, subst, ◌∙◌, append_assoc}
 use Rattle.std.proofs.lemmas.List.{append-nil, map-append}
-use Rattle.mmt_cast.specs.Casting.{cast_of}
 use Rattle.mmt_io.specs.History.{Event}
 use Rattle.mmt_io.specs.History.Event.{In, Note, Out}
 use Rattle.mmt_model.specs.Carrying.{numbers}
+use Rattle.mmt_model.specs.declared.casts.Cast.{Cast}
 use Rattle.mmt_model.specs.declared.programmes.Programme.{Programme}
 use Rattle.mmt_plan.specs.Plan.{Stays}
 use Rattle.mmt_plan.proofs.Fronts.{rose_since}
@@ -26,50 +26,50 @@ numbers-split f (suc a) b =
     let s : f + 1 + a ≡ f + suc a = omega arith in
     ap (numbers f) e ∙ ap (λ (ns : List ℕ). f ∷ ns) (numbers-split (f + 1) a b ∙ ap (λ (n : ℕ). numbers (f + 1) a ++ numbers n b) s)
 
-of-append : (programme : Programme) (files : ℕ → List ℕ) (xs ys : List ℕ) → stream_of programme files (xs ++ ys) ≡ stream_of programme files xs ++ stream_of programme files ys
+of-append : (programme : Programme) (cast : Cast) (files : ℕ → List ℕ) (xs ys : List ℕ) → stream_of programme cast files (xs ++ ys) ≡ stream_of programme cast files xs ++ stream_of programme cast files ys
 unfolding stream_of
-of-append programme files xs ys = map-append (packet_sent programme files) xs ys
+of-append programme cast files xs ys = map-append (packet_sent programme cast files) xs ys
 
 pieces-append : (xs ys : List Tlv) → pieces (xs ++ ys) ≡ pieces xs ++ pieces ys
 pieces-append xs ys = map-append (λ (p : Tlv). Out (spelling p)) xs ys
 
 -- the packets before a place, that at the place, and those after it
-stream-at : (programme : Programme) (files : ℕ → List ℕ) (k : ℕ) → k < length (cast_of programme).packets
-    → stream programme files ≡ stream_of programme files (numbers 0 k) ++ packet_sent programme files k ∷ stream_of programme files (numbers (k + 1) (length (cast_of programme).packets - k - 1))
+stream-at : (programme : Programme) (cast : Cast) (files : ℕ → List ℕ) (k : ℕ) → k < length cast.packets
+    → stream programme cast files ≡ stream_of programme cast files (numbers 0 k) ++ packet_sent programme cast files k ∷ stream_of programme cast files (numbers (k + 1) (length cast.packets - k - 1))
 unfolding stream stream_of numbers
-stream-at programme files k l =
-    let n : ℕ = length (cast_of programme).packets in
+stream-at programme cast files k l =
+    let n : ℕ = length cast.packets in
     let e : n ≡ k + suc (n - k - 1) = omega arith in
     let z : 0 + k ≡ k = omega arith in
-    ap (λ (m : ℕ). stream_of programme files (numbers 0 m)) e ∙ ap (stream_of programme files) (numbers-split 0 k (suc (n - k - 1))) ∙ of-append programme files (numbers 0 k) (numbers (0 + k) (suc (n - k - 1)))
-    ∙ ap (λ (m : ℕ). stream_of programme files (numbers 0 k) ++ stream_of programme files (numbers m (suc (n - k - 1)))) z
+    ap (λ (m : ℕ). stream_of programme cast files (numbers 0 m)) e ∙ ap (stream_of programme cast files) (numbers-split 0 k (suc (n - k - 1))) ∙ of-append programme cast files (numbers 0 k) (numbers (0 + k) (suc (n - k - 1)))
+    ∙ ap (λ (m : ℕ). stream_of programme cast files (numbers 0 k) ++ stream_of programme cast files (numbers m (suc (n - k - 1)))) z
 
-one-more : (programme : Programme) (files : ℕ → List ℕ) (k : ℕ) → stream_of programme files (numbers 0 (k + 1)) ≡ stream_of programme files (numbers 0 k) ++ packet_sent programme files k ∷ []
+one-more : (programme : Programme) (cast : Cast) (files : ℕ → List ℕ) (k : ℕ) → stream_of programme cast files (numbers 0 (k + 1)) ≡ stream_of programme cast files (numbers 0 k) ++ packet_sent programme cast files k ∷ []
 unfolding stream_of numbers
-one-more programme files k =
+one-more programme cast files k =
     let z : 0 + k ≡ k = omega arith in
-    ap (stream_of programme files) (numbers-split 0 k 1) ∙ of-append programme files (numbers 0 k) (numbers (0 + k) 1) ∙ ap (λ (m : ℕ). stream_of programme files (numbers 0 k) ++ packet_sent programme files m ∷ []) z
+    ap (stream_of programme cast files) (numbers-split 0 k 1) ∙ of-append programme cast files (numbers 0 k) (numbers (0 + k) 1) ∙ ap (λ (m : ℕ). stream_of programme cast files (numbers 0 k) ++ packet_sent programme cast files m ∷ []) z
 
 -- ---- histories
 
--- so many packets of the stream have been written
-abbrev pub HasSent : Programme → (ℕ → List ℕ) → ℕ → List Event → List Event → Type 0
-HasSent programme files k old now = now ≡ old ++ pieces (stream_of programme files (numbers 0 k))
+-- N packets of the stream have been written
+abbrev pub HasSent : Programme → Cast → (ℕ → List ℕ) → ℕ → List Event → List Event → Type 0
+HasSent programme cast files k old now = now ≡ old ++ pieces (stream_of programme cast files (numbers 0 k))
 
-pub sent-none : (programme : Programme) (files : ℕ → List ℕ) (old : List Event) → HasSent programme files 0 old old
+pub sent-none : (programme : Programme) (cast : Cast) (files : ℕ → List ℕ) (old : List Event) → HasSent programme cast files 0 old old
 unfolding stream_of numbers
-sent-none programme files old = sym (append-nil old)
+sent-none programme cast files old = sym (append-nil old)
 
-pub sent-more : (programme : Programme) (files : ℕ → List ℕ) (k : ℕ) (old now new : List Event) → HasSent programme files k old now → new ≡ now ++ pieces (packet_sent programme files k ∷ []) → HasSent programme files (k + 1) old new
-sent-more programme files k old now new so_far e =
-    let sent : List Tlv = stream_of programme files (numbers 0 k) in
-    let next : List Tlv = packet_sent programme files k ∷ [] in
+pub sent-more : (programme : Programme) (cast : Cast) (files : ℕ → List ℕ) (k : ℕ) (old now new : List Event) → HasSent programme cast files k old now → new ≡ now ++ pieces (packet_sent programme cast files k ∷ []) → HasSent programme cast files (k + 1) old new
+sent-more programme cast files k old now new so_far e =
+    let sent : List Tlv = stream_of programme cast files (numbers 0 k) in
+    let next : List Tlv = packet_sent programme cast files k ∷ [] in
     e ∙ ap (λ (h : List Event). h ++ pieces next) so_far ∙ append_assoc old (pieces sent) (pieces next) ∙ ap (λ (h : List Event). old ++ h) (sym (pieces-append sent next))
-    ∙ ap (λ (ps : List Tlv). old ++ pieces ps) (sym (one-more programme files k))
+    ∙ ap (λ (ps : List Tlv). old ++ pieces ps) (sym (one-more programme cast files k))
 
-pub sent-all : (programme : Programme) (files : ℕ → List ℕ) (k : ℕ) (old now : List Event) → k ≡ length (cast_of programme).packets → HasSent programme files k old now → now ≡ old ++ pieces (stream programme files)
+pub sent-all : (programme : Programme) (cast : Cast) (files : ℕ → List ℕ) (k : ℕ) (old now : List Event) → k ≡ length cast.packets → HasSent programme cast files k old now → now ≡ old ++ pieces (stream programme cast files)
 unfolding stream
-sent-all programme files k old now e so_far = so_far ∙ ap (λ (n : ℕ). old ++ pieces (stream_of programme files (numbers 0 n))) e
+sent-all programme cast files k old now e so_far = so_far ∙ ap (λ (n : ℕ). old ++ pieces (stream_of programme cast files (numbers 0 n))) e
 
 front-of : (last : List Event) (p : Tlv) (rest : List Tlv) → IsFrontOf last (p ∷ []) → IsFrontOf last (p ∷ rest)
 front-of [] p rest f = tt
@@ -78,15 +78,15 @@ front-of (Out bytes ∷ x ∷ xs) p rest f = f
 front-of (In bytes ∷ xs) p rest f = f
 front-of (Note bytes ∷ xs) p rest f = f
 
-pub has-begun : (programme : Programme) (files : ℕ → List ℕ) (k : ℕ) (old now new : List Event) → k < length (cast_of programme).packets → HasSent programme files k old now → AddsFront now new (packet_sent programme files k ∷ [])
-    → HasBegun old new (stream programme files)
-has-begun programme files k old now new l so_far adds = record {
-  sent = stream_of programme files (numbers 0 k);
-  left = packet_sent programme files k ∷ stream_of programme files (numbers (k + 1) (length (cast_of programme).packets - k - 1));
+pub has-begun : (programme : Programme) (cast : Cast) (files : ℕ → List ℕ) (k : ℕ) (old now new : List Event) → k < length cast.packets → HasSent programme cast files k old now → AddsFront now new (packet_sent programme cast files k ∷ [])
+    → HasBegun old new (stream programme cast files)
+has-begun programme cast files k old now new l so_far adds = record {
+  sent = stream_of programme cast files (numbers 0 k);
+  left = packet_sent programme cast files k ∷ stream_of programme cast files (numbers (k + 1) (length cast.packets - k - 1));
   last = adds.last;
-  all = stream-at programme files k l;
-  history = adds.history ∙ ap (λ (h : List Event). h ++ adds.last) so_far ∙ append_assoc old (pieces (stream_of programme files (numbers 0 k))) adds.last;
-  front = front-of adds.last (packet_sent programme files k) _ adds.front;
+  all = stream-at programme cast files k l;
+  history = adds.history ∙ ap (λ (h : List Event). h ++ adds.last) so_far ∙ append_assoc old (pieces (stream_of programme cast files (numbers 0 k))) adds.last;
+  front = front-of adds.last (packet_sent programme cast files k) _ adds.front;
 }
 
 pub none-begun : (packets : List Tlv) (h : List Event) → HasBegun h h packets

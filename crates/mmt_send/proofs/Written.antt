@@ -21,7 +21,7 @@ read : (ps : List Tlv) → bytes_read (pieces ps) ≡ []
 read [] = refl
 read (p ∷ ps) = read ps
 
--- what so many events add
+-- what N events add
 adds : (old more : List Event) (bytes : List ℕ) → bytes_written more ≡ bytes → bytes_noted more ≡ [] → bytes_read more ≡ [] → Adds old (old ++ more) bytes
 adds old more bytes w n r = record {
   written = bytes_written-append old more ∙ ap (λ (xs : List ℕ). bytes_written old ++ xs) w;

@@ -6,7 +6,7 @@ use Rattle.mmt_tlv.specs.Framing.{Packet, spelling}
 use Rattle.mmt_send.specs.declared.addressing.Addresser.{Addresser}
 use Rattle.mmt_send.specs.declared.addressing.Addresser.TheVariants.{Plain, Squeezed}
 
--- an addresser is as it is to be before a call: with the headers alone where none is compressed, and else a squeezer at that call
+-- an addresser is as it is to be before a call: with the headers alone where none is compressed, otherwise a squeezer at that call
 abbrev pub IsAt : Addressing → ℕ → Addresser → Type 0
 IsAt a call (Plain header) = (a.full_every ≡ 0) × (header ≡ a.header)
 IsAt a call (Squeezed squeezer) = (a.full_every ≢ 0) × (squeezer.context ≡ a.context) × (squeezer.full_every ≡ a.full_every) × (squeezer.header ≡ a.header) × IsAtCall call squeezer

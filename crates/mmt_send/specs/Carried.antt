@@ -1,7 +1,6 @@
 -- What the packets of the cast of a programme carry, so that it can be written (this project's rules).
 use Rattle.std.specs.Prelude.{◌≡◌, ℕ, ◌+◌, ◌*◌, ◌<◌, ◌≤◌, true, false, [], ◌∷◌, map, length, None}
 use Rattle.std.specs.List.{sum_by}
-use Rattle.mmt_cast.specs.Casting.{cast_of}
 use Rattle.mmt_cast.specs.Placing.{PlacedUnit, all_units}
 use Rattle.mmt_cast.specs.Refusing.{refusal}
 use Rattle.mmt_cast.specs.Right.{signal_at, unit_at}
@@ -17,13 +16,14 @@ use Rattle.mmt_sent.specs.Messages.{is_table}
 use Rattle.mmt_base.specs.Ticks.{low}
 use Rattle.mmt_model.specs.declared.casts.Sent.{Sent}
 use Rattle.mmt_packet.specs.Spelling.{Value as Mmtp}
+use Rattle.mmt_pace.specs.Recast.{IsItsCast}
 use Rattle.mmt_sent.specs.Payloads.{Units, Written, bytes_of, kind_of, written}
 
--- a right programme with its cast
+-- a right programme with a cast of it
 pub record HasCast (programme : Programme) (cast : Cast) : Type 0 where
   pub right : IsRight programme
   pub none : refusal programme ≡ None
-  pub is : cast ≡ cast_of programme
+  pub is : IsItsCast programme cast
 
 -- the bytes of a unit among several, with those of its header and its length
 abbrev pub own_size : PlacedUnit → ℕ
@@ -45,7 +45,7 @@ IsCarried programme (carries.Parameters s) = s < length programme.signals
 IsCarried programme (carries.Table s) = s < length programme.signals
 IsCarried programme (carries.TablePart s k) = (s < length programme.signals) × (is_table (signal_at programme s) ≡ true)
 
--- the payload of a part of a unit by itself, which is the part that it is said to be, with so many that follow (ISO/IEC 23008-1, the MPU payload)
+-- the payload of a part of a unit by itself, which is the part that it is said to be, with N that follow (ISO/IEC 23008-1, the MPU payload)
 abbrev pub lone_written : Cast → Contents → ℕ → ℕ → Part → ℕ → Written
 lone_written cast contents u k part counter =
     Units (record { timed = contents.timed u; part = part; aggregated = false; counter = counter; mpu = (entry_of_unit cast contents u).mpu }) (part_of_unit contents u k ∷ [])

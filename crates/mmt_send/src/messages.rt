@@ -127,7 +127,7 @@ pub fn put_piece(
     Ok(())
 }
 
-// The bytes of a part of so many at most, the first being number 0: none where it begins behind the end.
+// The bytes of a part of N at most, the first being number 0: none where it begins after the end.
 fn part(bytes: &[u8], limit: u32, number: u32) -> &[u8]
     requires { 1 ≤ limit }
     ensures { result.now ≡ part_bytes limit number bytes.now }

@@ -32,7 +32,7 @@ fn kind_of(carries: Carries) -> Kind
     }
 }
 
-/// Appends an MMTP packet of the cast: without packet counter and extension, and with reserved bits 0 (ISO/IEC 23008-1, the MMTP packet header). The payload is written behind the header.
+/// Appends an MMTP packet of the cast: without packet counter and extension, and with reserved bits 0 (ISO/IEC 23008-1, the MMTP packet header). The payload is written after the header.
 ///
 /// # Errors
 ///

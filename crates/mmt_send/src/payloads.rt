@@ -43,7 +43,7 @@ impl Room {
     }
 }
 
-// Part number k of so many, of a unit or message in parts (ISO/IEC 23008-1, the fragmentation indicator).
+// Part number k of N, of a unit or message in parts (ISO/IEC 23008-1, the fragmentation indicator).
 #[tactic(auto, unfolding(mmt_model::specs::Carrying::role))]
 fn role(number: u32, count: u32) -> Part
     ensures { result ≡ role_in number count }
@@ -57,7 +57,7 @@ fn role(number: u32, count: u32) -> Part
     }
 }
 
-// How many of so many parts follow a part, 255 where there are more (ISO/IEC 23008-1, the fragment counter).
+// How many of N parts follow a part, 255 where there are more (ISO/IEC 23008-1, the fragment counter).
 fn left(number: u32, count: u32) -> u8
     ensures { result ≡ left_of number count }
 {

@@ -1,9 +1,9 @@
 //! Writing the stream of a cast, packet by packet.
 
 ghost use Rattle.std.specs.Prelude.{◌≡◌, ◌+◌, ◌<◌, ◌++◌, ◌∷◌, [], length, get_or, None, IsTrue, IfOk, IfErr, OnOk, OnErr};
-ghost use Rattle.mmt_cast.specs.Casting.{cast_of};
 ghost use Rattle.mmt_cast.specs.Refusing.{refusal};
 ghost use Rattle.mmt_model.specs.Right.{IsRight};
+ghost use Rattle.mmt_pace.specs.Recast.{IsItsCast};
 ghost use Rattle.mmt_plan.specs.Plan.{Stays};
 ghost use Rattle.mmt_send.specs.Carried.{HasCast};
 ghost use Rattle.mmt_send.specs.Files.{files_on, HasCause};
@@ -62,7 +62,7 @@ impl Sender {
             (get_or job.now.cast.now.packets place no_packet).carries) }
         ensures packet { IsTrue (H.tells shelf.old) →
             OnOk result (self.new.made.outer.items ≡ spelling
-            (packet_sent job.now.programme.now (files_on (H.file shelf.old) job.now.programme.now) place)) }
+            (packet_sent job.now.programme.now job.now.cast.now (files_on (H.file shelf.old) job.now.programme.now) place)) }
     {
         let packets = job.cast.packets.as_slice();
         let sent = packets[place];
@@ -99,10 +99,10 @@ impl Sender {
             (get_or job.now.cast.now.packets place no_packet).carries) }
         ensures sent { IsTrue (H.tells shelf.old) → IsTrue (P.tells port.old) →
             OnOk result (P.history port.new ≡ P.history port.old ++ pieces
-            (packet_sent job.now.programme.now (files_on (H.file shelf.old) job.now.programme.now) place ∷ [])) }
+            (packet_sent job.now.programme.now job.now.cast.now (files_on (H.file shelf.old) job.now.programme.now) place ∷ [])) }
         ensures front { IsTrue (H.tells shelf.old) → IsTrue (P.tells port.old) →
             OnErr result (AddsFront (P.history port.old) (P.history port.new)
-            (packet_sent job.now.programme.now (files_on (H.file shelf.old) job.now.programme.now) place ∷ [])) }
+            (packet_sent job.now.programme.now job.now.cast.now (files_on (H.file shelf.old) job.now.programme.now) place ∷ [])) }
         ensures cause { IfErr result (λ e. EndsFor job.now.programme.now (H.tells shelf.old) (H.file shelf.old)
             (H.faults shelf.old, H.faults shelf.new) (P.write_faults port.old, P.write_faults port.new) e) }
         ensures shelf { Stays (H.tells shelf.old) (H.tells shelf.new) (H.file shelf.old) (H.file shelf.new) (H.faults shelf.old)
@@ -118,7 +118,7 @@ impl Sender {
     }
 }
 
-/// Writes the stream of an admitted cast of a right programme, one TLV packet with each write, in the order of the
+/// Writes the stream of an admitted cast of a right programme, its own or one at other ticks, one TLV packet with each write, in the order of the
 /// cast; each file is read only for the packet that is written next.
 ///
 /// # Errors
@@ -134,14 +134,14 @@ pub fn send<H: Shelf, P: Port>(
 ) -> Result<(), SendEnd>
     requires right { IsRight programme.now }
     requires none { refusal programme.now ≡ None }
-    requires cast { cast.now ≡ cast_of programme.now }
+    requires cast { IsItsCast programme.now cast.now }
     // The stream was written, or a prefix of it, and nothing was noted or read; where shelf and port tell what they have.
     ensures done { IsTrue (H.tells shelf.old) → IsTrue (P.tells port.old) →
         OnOk result (P.history port.new ≡ P.history port.old ++ pieces
-        (stream programme.now (files_on (H.file shelf.old) programme.now))) }
+        (stream programme.now cast.now (files_on (H.file shelf.old) programme.now))) }
     ensures begun { IsTrue (H.tells shelf.old) → IsTrue (P.tells port.old) →
         OnErr result (HasBegun (P.history port.old) (P.history port.new)
-        (stream programme.now (files_on (H.file shelf.old) programme.now))) }
+        (stream programme.now cast.now (files_on (H.file shelf.old) programme.now))) }
     // Where it was written, no file ends before a unit of it does.
     ensures whole { IsTrue (H.tells shelf.old) → OnOk result (AreWhole programme.now (files_on (H.file shelf.old) programme.now)) }
     // Why it ended.

@@ -1,9 +1,9 @@
 //! Where the bytes of a unit come from.
 
 ghost use Rattle.std.specs.Prelude.{◌≡◌, ◌<◌, length, None};
-ghost use Rattle.mmt_cast.specs.Casting.{cast_of};
 ghost use Rattle.mmt_cast.specs.Placing.{all_units};
 ghost use Rattle.mmt_model.specs.Right.{IsRight};
+ghost use Rattle.mmt_pace.specs.Recast.{IsItsCast};
 ghost use Rattle.mmt_send.specs.Files.{IsSource};
 
 use mmt_model::{Cast, Programme, Unit};
@@ -19,10 +19,10 @@ pub struct Source<'a> {
     pub name: &'a str,
 }
 
-/// The unit of a number in the cast of a programme.
+/// The unit of a number in a cast of a programme.
 pub fn source_of<'a>(programme: &'a Programme, cast: &Cast, number: u32) -> Source<'a>
     requires right { IsRight programme.now }
-    requires cast { cast.now ≡ cast_of programme.now }
+    requires cast { IsItsCast programme.now cast.now }
     requires known { number < length (all_units programme.now) }
     ensures number { result.number ≡ number }
     ensures source { IsSource programme.now result }

@@ -52,7 +52,7 @@ abbrev pub length_of : Written → ℕ
 length_of (Units head units) = total_length head (map as_unit units)
 length_of (Message part counter message) = 2 + length message
 
--- how many of so many parts follow a part, 255 where there are more (ISO/IEC 23008-1, the fragment counter)
+-- how many of N parts follow a part, 255 where there are more (ISO/IEC 23008-1, the fragment counter)
 abbrev pub left : ℕ → ℕ → ℕ
 left k count = min (count - 1 - k) 255
 

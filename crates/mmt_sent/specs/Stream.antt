@@ -1,8 +1,8 @@
--- The stream that is sent of a programme: the TLV packets of its cast, with the bytes of its files and of its messages.
+-- The stream that is sent of a programme: the TLV packets of a cast of it, with the bytes of its files and of its messages.
 use Rattle.std.specs.Prelude.{ℕ, List, map, length}
-use Rattle.mmt_cast.specs.Casting.{cast_of}
 use Rattle.mmt_cast.specs.Right.{contents_of}
 use Rattle.mmt_model.specs.Carrying.{Contents, numbers}
+use Rattle.mmt_model.specs.declared.casts.Cast.{Cast}
 use Rattle.mmt_model.specs.declared.programmes.Programme.{Programme}
 use Rattle.mmt_sent.specs.Messages.{message_bytes}
 use Rattle.mmt_sent.specs.Packets.{Addressing, tlv_at}
@@ -29,14 +29,14 @@ addressing_of programme =
 abbrev pub contents_sent : Programme → (ℕ → List ℕ) → Contents
 contents_sent programme files = contents_of programme files (message_bytes programme)
 
--- the TLV packet at a place of the cast of a programme
-unfoldable pub packet_sent : Programme → (ℕ → List ℕ) → ℕ → Tlv
-packet_sent programme files n = tlv_at (addressing_of programme) (cast_of programme) (contents_sent programme files) n
+-- the TLV packet at a place of a cast of a programme, which says at which ticks its packets are sent
+unfoldable pub packet_sent : Programme → Cast → (ℕ → List ℕ) → ℕ → Tlv
+packet_sent programme cast files n = tlv_at (addressing_of programme) cast (contents_sent programme files) n
 
--- the TLV packets of a delivery of the cast of a programme, in the order of the stream
-unfoldable pub stream_of : Programme → (ℕ → List ℕ) → List ℕ → List Tlv
-stream_of programme files delivery = map (packet_sent programme files) delivery
+-- the TLV packets of a delivery of a cast of a programme, in the order of the stream
+unfoldable pub stream_of : Programme → Cast → (ℕ → List ℕ) → List ℕ → List Tlv
+stream_of programme cast files delivery = map (packet_sent programme cast files) delivery
 
--- the stream of a programme: the packets of its cast in their order
-unfoldable pub stream : Programme → (ℕ → List ℕ) → List Tlv
-stream programme files = stream_of programme files (numbers 0 (length (cast_of programme).packets))
+-- the stream of a programme over a cast: the packets of the cast in their order
+unfoldable pub stream : Programme → Cast → (ℕ → List ℕ) → List Tlv
+stream programme cast files = stream_of programme cast files (numbers 0 (length cast.packets))

@@ -35,7 +35,7 @@ fn table_size(programme: &Programme, names: &[(u32, u32)]) -> usize
     9 + programme.package.len() + assets_size(programme.assets.as_slice(), names)
 }
 
-/// Appends a table of so many bytes, with these names, where there is room for it.
+/// Appends a table of N bytes, with these names, where there is room for it.
 #[tactic(auto, using(std::proofs::Common::append_assoc, crate::proofs::Tables::table_are, crate::proofs::Tables::table_parts, crate::proofs::Tables::table_room))]
 fn put_table(
     out: &mut Vec<u8>,

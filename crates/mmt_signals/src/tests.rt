@@ -45,7 +45,7 @@ fc00000000000000000000000000000001000000000000000100000002000000\
 000000001200000013000000000000001300000014000000000000001400010c\
 000000150000000000000015";
 
-/// A unit of timed media, so many ticks after the start.
+/// A unit of timed media, N ticks after the start.
 fn unit(tick: u32, from: u32, length: u32, sample: u32) -> Unit
     ensures { result ≡ unit_with tick from length 1 sample }
 {

@@ -10,3 +10,4 @@ pub mod Outcomes
 pub mod Searching
 pub mod Lining
 pub mod Filling
+mod Only

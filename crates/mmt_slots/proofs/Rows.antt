@@ -18,7 +18,7 @@ ceil_below : (a b k : ℕ) → 0 < b → a ≤ k * b → k < div_ceil a b → �
 ceil_below a b k p h l = let m : suc k ≤ div_ceil a b = omega arith in
     omega (arith, (div_ceil_times a b p).1, mul-le-mul_right {m = suc k} {n = div_ceil a b} b m)
 
--- a slot is at or after a tick exactly where its number is at or after that of the first such slot
+-- a slot is at or after a tick if and only if its number is at or after that of the first such slot
 pub tick-from_first : (slots : Slots) (k tick : ℕ) → 1 ≤ slots.step → first_at slots tick ≤ k → tick ≤ tick_of slots k
 unfolding first_at
 tick-from_first slots k tick p h = omega (arith, ceil_above (tick - slots.start) slots.step k p h)
@@ -31,7 +31,7 @@ first-from_tick slots k tick p h = ⊎_elim (λ (l : k < first_at slots tick). a
 pub first-later : (slots : Slots) (a b : ℕ) → 1 ≤ slots.step → a ≤ b → first_at slots a ≤ first_at slots b
 first-later slots a b p h = let m : b ≤ tick_of slots (first_at slots b) = tick-from_first slots (first_at slots b) b p (omega arith) in first-from_tick slots (first_at slots b) a p (omega arith)
 
--- a slot of the row is at or before a tick exactly where its number is below their count
+-- a slot of the row is at or before a tick if and only if its number is below their count
 pub tick-from_end : (slots : Slots) (k tick : ℕ) → 1 ≤ slots.step → k < end_at slots tick → tick_of slots k ≤ tick
 unfolding end_at
 tick-from_end slots k tick p h = go (nat_lt tick slots.start) refl h

@@ -78,3 +78,8 @@ Answers jobs slots (Err OutOfMemory) = ⊤
 -- an overfull interval excludes any schedule
 abbrev pub OverfullForbids : Type 0
 OverfullForbids = (jobs : List Job) (slots : Slots) (given : List ℕ) (from to : ℕ) → IsOverfull jobs slots from to → IsSchedule jobs slots given → ⊥
+
+-- of the schedules with the earliest deadline first there is one
+abbrev pub SchedulesAreOne : Type 0
+SchedulesAreOne =
+    (jobs : List Job) (slots : Slots) (given other : List ℕ) → IsSchedule jobs slots given → IsEarliestFirst jobs slots given → IsSchedule jobs slots other → IsEarliestFirst jobs slots other → given ≡ other

@@ -10,6 +10,6 @@ mod scheduling;
 #[cfg(test)]
 mod tests;
 
-pub use laws::overfull_forbids;
+pub use laws::{overfull_forbids, schedules_are_one};
 pub use row::{Job, NoSchedule, Slots};
 pub use scheduling::schedule;

@@ -42,7 +42,7 @@ fn fill(alloc: Global, jobs: &[Job], slots: &Slots) -> Result<Vec<u32>, NoSchedu
 ///
 /// # Errors
 ///
-/// `Overfull` exactly where some interval has more jobs than slots, with one such; and want of memory.
+/// `Overfull` if and only if some interval has more jobs than slots, with one such; and out of memory.
 pub fn schedule(alloc: Global, jobs: &List<Job>, slots: &Slots) -> Result<List<u32>, NoSchedule>
     requires jobs { length jobs.now ≤ 2 ^ 24 }
     requires step { 1 ≤ slots.now.step }

@@ -47,7 +47,7 @@ no_read-append (In bytes ∷ xs) ys left right = absurd left
 no_read-append (Out bytes ∷ xs) ys left right = no_read-append xs ys left right
 no_read-append (Note bytes ∷ xs) ys left right = no_read-append xs ys left right
 
--- an answer that the input ended stands before what goes out behind it
+-- an answer that the input ended stands before what goes out after it
 end_before : (events more before after : List Event) → NoRead more → events ++ more ≡ before ++ In [] ∷ after → (rest : List Event) × (events ≡ before ++ In [] ∷ rest) × (after ≡ rest ++ more)
 end_before [] more before after outputs is = absurd (none_read more outputs before after is)
 end_before (e ∷ events) more [] after outputs is =

@@ -1,4 +1,4 @@
--- One output behind another, and what begins with what.
+-- One output after another, and what begins with what.
 use Rattle.std.proofs.Common.{◌≡◌, ℕ, List, [], ◌∷◌, ◌++◌, ap, sym, ◌∙◌, append_assoc}
 use Rattle.std.proofs.lemmas.List.{append-nil}
 use Rattle.mmt_io.specs.History.{Event}
@@ -33,6 +33,6 @@ start_trans a b c first second = record {
   noted = prefix_trans a.noted b.noted c.noted first.noted second.noted;
 }
 
--- what goes out before the rest is a start of the whole
+-- what goes out before the rest is a prefix of the whole
 pub start_of_both : (a b whole : Output) → followed a b ≡ whole → IsPrefixOf a whole
 start_of_both a b whole is = record { written = (b.written, sym (ap (λ x. x.written) is)); noted = (b.noted, sym (ap (λ x. x.noted) is)) }

@@ -15,7 +15,7 @@ use Rattle.mmt_tlv.proofs.Stands.{NextPacket, stands_taken, stands_sync, stands_
 use Rattle.mmt_tlv.proofs.Unique.{same_packet, rest_is_short}
 use Rattle.mmt_io.specs.Output.{Output, nothing, followed, output_of, IsPrefixOf, NoRead}
 use Rattle.mmt_stream.specs.Consuming.{Meaning, Grows, Emits, EmitsStart, Settles}
-use Rattle.mmt_stream.specs.Streaming.{HasShown, HasFinished, HasBegun, HasEnded, Streams, Passed}
+use Rattle.mmt_stream.specs.Streaming.{HasShown, HasFinished, HasBegun, HasBegunPackets, HasEnded, Streams, Passed}
 use Rattle.mmt_stream.specs.Driving.{Turn, Stopped, EndsWith, halted}
 use Rattle.mmt_stream.specs.declared.end.StreamEnd.{StreamEnd}
 use Rattle.mmt_stream.specs.declared.end.StreamEnd.TheVariants as end
@@ -46,14 +46,14 @@ more_packets (p ∷ ps) (q ∷ qs) r s e right =
     let others = more_packets ps qs r s first.1 right in
     (others.0, ap (λ x. x ∷ qs) (sym first.0) ∙ ap (λ x. p ∷ x) others.1)
 
--- a start of what belongs to the first packets is one of what belongs to all of them
-pub begun : (m : Meaning) (events : List Event) (packets : List Packet) (rest : List ℕ) → Grows m → bytes_read events ≡ joined packets ++ rest → IsFramed (bytes_read events) → IsPrefixOf (output_of events) (m.so_far packets) → HasBegun m events
+-- a prefix of what belongs to the first packets is one of what belongs to all of them
+pub begun : (m : Meaning) (events : List Event) (packets : List Packet) (rest : List ℕ) → Grows m → bytes_read events ≡ joined packets ++ rest → IsFramed (bytes_read events) → IsPrefixOf (output_of events) (m.so_far packets) → HasBegunPackets m events
 begun m events packets rest grows read (all, tail, framed) start =
     let more = more_packets packets all rest tail (sym read ∙ framed.whole) framed.left in
     let later : IsPrefixOf (m.so_far packets) (m.so_far all) = subst (λ x. IsPrefixOf (m.so_far packets) (m.so_far x)) (sym more.1) (grows.more packets more.0) in
-    (all, tail, framed, inl (start_trans (output_of events) (m.so_far packets) (m.so_far all) start later))
+    (all, tail, framed, start_trans (output_of events) (m.so_far packets) (m.so_far all) start later)
 
--- what goes out behind what went out before
+-- what goes out after what went out before
 went_out : (events more : List Event) (wanted : Output) → IsPrefixOf (followed (output_of events) (output_of more)) wanted → IsPrefixOf (output_of (events ++ more)) wanted
 went_out events more wanted start = subst (λ o. IsPrefixOf o wanted) (sym (output_of-append events more)) start
 
@@ -114,11 +114,11 @@ module _ {C : Type 0} (m : Meaning) (stands : C → List Packet → Type 0) (lim
 
   -- a run that a consumer halted
   halts : (now next : List Event) (unread after : List ℕ) (events more : List Event) (reason : Halt) → Passed m start now left unread events → next ≡ now ++ more → NoRead more → after ≡ unread
-      → length (bytes_read events) ≤ limit → HasBegun m (events ++ more) → (HasEnded (events ++ more) → after ≡ []) → Streams m limit (halted reason) start next left after
-  halts now next unread after events more halt.WriteFault p grown outputs kept few begun over = record {
+      → length (bytes_read events) ≤ limit → HasBegunPackets m (events ++ more) → (HasEnded (events ++ more) → after ≡ []) → Streams m limit (halted reason) start next left after
+  halts now next unread after events more halt.WriteFault p grown outputs kept few (packets, tail, framed, first) over = record {
     events = events ++ more;
     passed = passed_more m start now next left unread after events more p grown outputs kept;
-    ends = (begun, over, rw (read_same events more outputs) few);
+    ends = ((packets, tail, framed, inl first), over, rw (read_same events more outputs) few);
   }
   halts now next unread after events more halt.OutOfMemory p grown outputs kept few begun over = record {
     events = events ++ more;
@@ -308,17 +308,21 @@ module _ {C : Type 0} (m : Meaning) (stands : C → List Packet → Type 0) (lim
   over_more events more unread after outputs kept (inl going) ended = absurd (going_more events more outputs going ended)
   over_more events more unread after outputs kept (inr none) ended = kept ∙ none
 
-  -- the end, and then a fault or want of memory
-  pub stopped_halted : (now next : List Event) (unread after : List ℕ) (consumer : C) (gathered : Output) (reason : Halt) (s : Stopped m stands limit start now left unread consumer gathered)
-      → EmitsStart now next gathered (m.so_far s.packets) (m.at_end s.packets) → after ≡ unread → Streams m limit (halted reason) start next left after
-  stopped_halted now next unread after consumer gathered reason s e kept =
+  -- the end, and then a write that failed
+  pub stopped_halted : (now next : List Event) (unread after : List ℕ) (consumer : C) (gathered : Output) (s : Stopped m stands limit start now left unread consumer gathered)
+      → EmitsStart now next gathered (m.so_far s.packets) (m.at_end s.packets) → after ≡ unread → Streams m limit end.WriteFault start next left after
+  stopped_halted now next unread after consumer gathered s e kept =
       let begun : HasBegun m (s.events ++ e.events) = (
         s.packets,
         s.tail,
         rw (read_same s.events e.events e.outputs) s.framed,
         inr (went_out s.events e.events _ (e.output (output_of s.events) s.output), how_more s.events e.events s.tail s.how),
       ) in
-      halts now next unread after s.events e.events reason s.passed e.history e.outputs kept s.few begun (over_more s.events e.events unread after e.outputs kept s.over)
+      record {
+        events = s.events ++ e.events;
+        passed = passed_more m start now next left unread after s.events e.events s.passed e.history e.outputs kept;
+        ends = (begun, over_more s.events e.events unread after e.outputs kept s.over, rw (read_same s.events e.events e.outputs) s.few);
+      }
 
   pub whole_ends : (room : ℕ) (now next final : List Event) (unread after last bytes : List ℕ) (c : Cutting) (consumer : C) (gathered : Output) (outcome : StreamEnd) → gathered ≡ nothing → Turn m stands limit start now left unread [] c consumer gathered
       → Receives now next unread after bytes room → 0 < room → bytes ≡ [] → cutting.Ends c cut_end.Whole
@@ -338,7 +342,7 @@ module _ {C : Type 0} (m : Meaning) (stands : C → List Packet → Type 0) (lim
             rw (read_same s.events e.events e.outputs) s.few,
           );
         })
-        | inr (reason, is, e) ↦ rw is (stopped_halted next final after last consumer gathered reason s e kept)
+        | inr (is, e) ↦ rw is (stopped_halted next final after last consumer gathered s e kept)
       ]
 
   pub cut_ends : (place room : ℕ) (now next final : List Event) (unread after last bytes : List ℕ) (c : Cutting) (consumer : C) (gathered : Output) (outcome : StreamEnd) → gathered ≡ nothing → Turn m stands limit start now left unread [] c consumer gathered
@@ -363,7 +367,7 @@ module _ {C : Type 0} (m : Meaning) (stands : C → List Packet → Type 0) (lim
             rw (read_same s.events e.events e.outputs) s.few,
           );
         })
-        | inr (reason, is, e) ↦ rw is (stopped_halted next final after last consumer gathered reason s e kept)
+        | inr (is, e) ↦ rw is (stopped_halted next final after last consumer gathered s e kept)
       ]
 
   pub lost_ends : (place : ℕ) (now final : List Event) (unread last : List ℕ) (consumer : C) (gathered : Output) (outcome : StreamEnd)
@@ -376,5 +380,5 @@ module _ {C : Type 0} (m : Meaning) (stands : C → List Packet → Type 0) (lim
           passed = passed_more m start now final left unread last s.events e.events s.passed e.history e.outputs kept;
           ends = (s.packets, s.tail, finished now final unread consumer gathered s e, out, at, rw (read_same s.events e.events e.outputs) s.few);
         })
-        | inr (reason, is, e) ↦ rw is (stopped_halted now final unread last consumer gathered reason s e kept)
+        | inr (is, e) ↦ rw is (stopped_halted now final unread last consumer gathered s e kept)
       ]

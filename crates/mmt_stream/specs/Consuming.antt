@@ -10,7 +10,7 @@ pub record Meaning : Type 0 where
   pub so_far : List Packet → Output
   pub at_end : List Packet → Output
 
--- Nothing belongs to no packets, more packets add behind what there is, and so does the end.
+-- Nothing belongs to no packets, more packets add after what there is, and so does the end.
 pub record Grows (m : Meaning) : Type 0 where
   pub none : m.so_far [] ≡ nothing
   pub more : (packets others : List Packet) → IsPrefixOf (m.so_far packets) (m.so_far (packets ++ others))
@@ -23,7 +23,7 @@ pub record Emits (old new : List Event) (gathered gathered' whole whole' : Outpu
   pub outputs : NoRead events
   pub output : (done : Output) → followed done gathered ≡ whole → followed (followed done (output_of events)) gathered' ≡ whole'
 
--- The same, but only a start of the other whole went out.
+-- The same, but only a prefix of the other whole went out.
 pub record EmitsStart (old new : List Event) (gathered whole whole' : Output) : Type 0 where
   pub events : List Event
   pub history : new ≡ old ++ events

@@ -52,11 +52,11 @@ Serves m stands gathered limit old now left unread c (served.Lost consumer place
     (s : Stopped m stands limit old now left unread consumer (gathered consumer)) × IsOutOfSync s.tail × (place ≡ length (joined s.packets))
 Serves m stands gathered limit old now left unread c (served.Halted reason) = Streams m limit (halted reason) old now left unread
 
--- how the end of a stream goes: with the given answer, or by a fault or want of memory
+-- how the end of a stream goes: with the given answer, or by a write that failed
 abbrev pub EndsWith : Meaning → Output → List Packet → StreamEnd → List Event → List Event → StreamEnd → Type 0
 EndsWith m gathered packets wanted old new outcome =
     ((outcome ≡ wanted) × Emits old new gathered nothing (m.so_far packets) (m.at_end packets))
-    ⊎ ((reason : Halt) × (outcome ≡ halted reason) × EmitsStart old new gathered (m.so_far packets) (m.at_end packets))
+    ⊎ ((outcome ≡ end.WriteFault) × EmitsStart old new gathered (m.so_far packets) (m.at_end packets))
 
 -- the consumer was given no packets, and has gathered nothing
 abbrev pub IsNew : {C : Type 0} → (C → List Packet → Type 0) → (C → Output) → C → Type 0

@@ -37,6 +37,10 @@ abbrev pub HasBegun : Meaning → List Event → Type 0
 HasBegun m events = (packets : List Packet) × (tail : List ℕ) × Framed (bytes_read events) packets tail
     × (IsPrefixOf (output_of events) (m.so_far packets) ⊎ (IsPrefixOf (output_of events) (m.at_end packets) × (HasEnded events ⊎ IsOutOfSync tail)))
 
+-- Of what belongs to the whole packets of the bytes read, a prefix went out, and nothing of what belongs to the end.
+abbrev pub HasBegunPackets : Meaning → List Event → Type 0
+HasBegunPackets m events = (packets : List Packet) × (tail : List ℕ) × Framed (bytes_read events) packets tail × IsPrefixOf (output_of events) (m.so_far packets)
+
 -- where a read answered the end of the input, nothing is unread
 abbrev pub IsAllRead : List Event → List ℕ → Type 0
 IsAllRead events unread = HasEnded events → unread ≡ []
@@ -53,7 +57,7 @@ Ends m limit end.TooLong events unread = (packets : List Packet) × (tail : List
     × (output_of events ≡ m.so_far packets) × (HasEnded events → ⊥)
 Ends m limit end.ReadFault events unread = (packets : List Packet) × (tail : List ℕ) × HasShown m events packets tail × IsFront tail × (length (bytes_read events) ≤ limit)
 Ends m limit end.WriteFault events unread = HasBegun m events × IsAllRead events unread × (length (bytes_read events) ≤ limit)
-Ends m limit end.OutOfMemory events unread = HasBegun m events × IsAllRead events unread × (length (bytes_read events) ≤ limit)
+Ends m limit end.OutOfMemory events unread = HasBegunPackets m events × IsAllRead events unread × (length (bytes_read events) ≤ limit)
 
 -- What has passed through a port: what was added to its history and what was taken of its bytes, each read in its time.
 pub record Passed (m : Meaning) (old now : List Event) (left unread : List ℕ) (events : List Event) : Type 0 where
@@ -68,7 +72,7 @@ pub record Streams (m : Meaning) (limit : ℕ) (outcome : StreamEnd) (old now : 
   pub passed : Passed m old now left unread events
   pub ends : Ends m limit outcome events unread
 
--- a fault or want of memory ended the run
+-- a fault or out of memory ended the run
 abbrev pub IsInterrupted : StreamEnd → Type 0
 IsInterrupted outcome = (outcome ≡ end.ReadFault) ⊎ ((outcome ≡ end.WriteFault) ⊎ (outcome ≡ end.OutOfMemory))
 
@@ -76,7 +80,7 @@ IsInterrupted outcome = (outcome ≡ end.ReadFault) ⊎ ((outcome ≡ end.WriteF
 pub record Does (m : Meaning) (limit : ℕ) (outcome : StreamEnd) (old new : List Event) (left unread : List ℕ) (reads reads' writes writes' : ℕ) : Type 0 where
   -- what was read, written and noted, and how it ended
   pub streams : Streams m limit outcome old new left unread
-  -- at most so many bytes and one more are read
+  -- at most N bytes and one more are read
   pub few : (events : List Event) → new ≡ old ++ events → length (bytes_read events) ≤ limit + 1
   -- a byte that begins no packet, among the first ones that were read, is told with its place
   pub tells_sync : (events : List Event) (packets : List Packet) (tail : List ℕ) → new ≡ old ++ events → Framed (take limit (bytes_read events)) packets tail
@@ -87,7 +91,7 @@ pub record Does (m : Meaning) (limit : ℕ) (outcome : StreamEnd) (old new : Lis
   -- an input that ends within a packet is told, with the packet's place
   pub tells_cut : (events : List Event) (packets : List Packet) (tail : List ℕ) → new ≡ old ++ events → Framed (bytes_read events) packets tail
       → IsFront tail → tail ≢ [] → HasEnded events → (outcome ≡ end.Broken kind.Cut (length (joined packets))) ⊎ IsInterrupted outcome
-  -- an input that ends behind a packet is done
+  -- an input that ends after a packet is done
   pub tells_done : (events : List Event) (packets : List Packet) → new ≡ old ++ events → Framed (bytes_read events) packets []
       → HasEnded events → (outcome ≡ end.Done) ⊎ IsInterrupted outcome
   -- whole packets within the limit are read to their end, unless a call failed or memory ran out

@@ -43,8 +43,9 @@ pub trait Consumer<P: Port>: Drop {
             Settles (meaning self) stands gathered self packets (P.history port.old)
             (P.history port.new) result };
 
-    /// Puts out all that is gathered, and what belongs to the end of the stream.
+    /// Puts out all that is gathered, and what belongs to the end of the stream. It takes no memory.
     fn finish(self, port: &mut P) -> Result<(), Halt>
+        ensures memory { IsErrOf result Halt.OutOfMemory → ⊥ }
         ensures sends { OnlySends P.tells P.left P.read_faults P.write_faults port.old port.new }
         ensures cause { IsErrOf result Halt.WriteFault →
             Rose (P.write_faults port.old) (P.write_faults port.new) }

@@ -87,7 +87,8 @@ fn finish<P: Port, C: Consumer<P>>(port: &mut P, consumer: C, wanted: StreamEnd)
 {
     match consumer.finish(port) {
         Ok(()) => wanted,
-        Err(reason) => end_of(reason),
+        Err(Halt::WriteFault) => StreamEnd::WriteFault,
+        Err(Halt::OutOfMemory) => unreachable!(),
     }
 }
 
@@ -190,7 +191,7 @@ pub fn stream<P: Port, C: Consumer<P>>(
         Rose (P.read_faults port.old) (P.read_faults port.new) }
     ensures write_fault { result ≡ StreamEnd.WriteFault →
         Rose (P.write_faults port.old) (P.write_faults port.new) }
-    // What was read and what went out, read by read, and each answer exactly where it belongs.
+    // What was read and what went out, read by read, and each answer where it belongs.
     ensures does { IsTrue (P.tells port.old) →
         Does (C.meaning consumer) limit result (P.history port.old) (P.history port.new)
         (P.left port.old) (P.left port.new)

@@ -6,7 +6,7 @@ use Rattle.mmt_model.specs.Delivery.{newest_first}
 use Rattle.mmt_tlv.specs.Framing.{Packet, joined}
 use Rattle.mmt_io.specs.Output.{nothing, followed, only_written, only_noted, Puts, PutsPrefix}
 use Rattle.mmt_stream.specs.Consuming.{Emits, EmitsStart}
-use Rattle.mmt_output.proofs.Putting.{emits, emits_start, puts_both, puts_and_start, puts_noted, start_noted, puts_start, start_of_part}
+use Rattle.mmt_output.proofs.Putting.{emits, emits_start, puts_both, puts_and_start, puts_noted, start_noted, start_of_part}
 use Rattle.mmt_tune.specs.declared.config.Config.{Config}
 use Rattle.mmt_recv.specs.Receiving.{received, more, summary_of}
 use Rattle.mmt_take.specs.Taking.{placed, last_records, line_of, at_last}
@@ -26,7 +26,7 @@ pub pushes : (config : Config) (place : ℕ) (packets : List Packet) (packet : P
     → Emits old new nothing nothing (received config (placed (newest_first packets))) (received config (placed (newest_first (packets ++ packet ∷ []))))
 pushes config place packets packet old new at p = emits old new _ (more config (placed (newest_first packets)) (record { place = place; packet = packet })) _ (at_place config place packets packet at) p
 
--- a start of it went out
+-- a prefix of it went out
 pub pushes_start : (config : Config) (place : ℕ) (packets : List Packet) (packet : Packet) (old new : List Event) → place ≡ length (joined packets)
     → PutsPrefix old new (more config (placed (newest_first packets)) (record { place = place; packet = packet }))
     → EmitsStart old new nothing (received config (placed (newest_first packets))) (received config (placed (newest_first (packets ++ packet ∷ []))))
@@ -41,7 +41,7 @@ finishes config packets old mid new bytes p line sent =
     (puts_both old mid new _ (only_noted (line_of (summary_of config (placed (newest_first packets))))) p
     (subst (λ b. Puts mid new (only_noted b)) line (puts_noted mid new bytes sent)))
 
--- a start of it went out, with all records before the note
+-- a prefix of it went out, with all records before the note
 pub finishes_start : (config : Config) (packets : List Packet) (old mid new : List Event) (bytes : List ℕ) → Puts old mid (only_written (last_records config (placed (newest_first packets))))
     → bytes ≡ line_of (summary_of config (placed (newest_first packets)))
     → (new ≡ mid) ⊎ ((part rest : List ℕ) × (bytes ≡ part ++ rest) × (new ≡ mid ++ Note part ∷ []))
@@ -51,13 +51,7 @@ finishes_start config packets old mid new bytes p line sent =
     (puts_and_start old mid new _ (only_noted (line_of (summary_of config (placed (newest_first packets))))) p
     (subst (λ b. PutsPrefix mid new (only_noted b)) line (start_noted mid new bytes sent)))
 
--- the records went out, and no memory was left for the note
-pub finishes_records : (config : Config) (packets : List Packet) (old new : List Event) → Puts old new (only_written (last_records config (placed (newest_first packets))))
-    → EmitsStart old new nothing (received config (placed (newest_first packets))) (followed (received config (placed (newest_first packets))) (at_last config (placed (newest_first packets))))
-finishes_records config packets old new p =
-    emits_start old new _ (at_last config (placed (newest_first packets))) _ refl (start_of_part old new _ _ (puts_start old new _ p))
-
--- a start of the records went out
+-- a prefix of the records went out
 pub finishes_part : (config : Config) (packets : List Packet) (old new : List Event) → PutsPrefix old new (only_written (last_records config (placed (newest_first packets))))
     → EmitsStart old new nothing (received config (placed (newest_first packets))) (followed (received config (placed (newest_first packets))) (at_last config (placed (newest_first packets))))
 finishes_part config packets old new p =

@@ -32,7 +32,7 @@ line_of s = codes "units " ++ decimal s.units ++ codes " bytes " ++ decimal s.by
 abbrev pub at_last : Config → List Placed → Output
 at_last config ps = followed (only_written (last_records config ps)) (only_noted (line_of (summary_of config ps)))
 
--- what was received while the stream goes on, and what goes out at its end behind it (this project's rule)
+-- what was received while the stream goes on, and what goes out at its end after it (this project's rule)
 abbrev pub taking : Config → Meaning
 taking config = record {
   so_far = λ packets. received config (placed (newest_first packets));

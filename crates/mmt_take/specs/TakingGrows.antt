@@ -24,7 +24,7 @@ placed_one : (packet : Packet) (older : List Packet) → placed (packet ∷ olde
 unfolding placed
 placed_one packet older = refl
 
--- a packet more stands behind all bytes before it
+-- a packet more stands after all bytes before it
 pub placed_next : (packets : List Packet) (packet : Packet)
     → placed (newest_first (packets ++ packet ∷ [])) ≡ record { place = bytes_of (newest_first packets); packet = packet } ∷ placed (newest_first packets)
 placed_next packets packet = ap placed (newest_more packets packet) ∙ placed_one packet (newest_first packets)

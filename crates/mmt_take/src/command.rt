@@ -1,50 +1,61 @@
 //! The command `take`.
 
-ghost use Rattle.std.specs.Prelude.{◌≡◌, ◌≤◌, ◌^◌, [], IfOk, string_bytes};
+ghost use Rattle.std.specs.Prelude.{◌≡◌, ◌+◌, ◌≤◌, ◌^◌, [], IfOk, vec_len, vec_capacity};
 ghost use Rattle.mmt_io.specs.Output.{nothing};
 ghost use Rattle.mmt_model.specs.Delivery.{newest_first};
 ghost use Rattle.mmt_recv.specs.Receiving.{Stands};
 ghost use Rattle.mmt_take.specs.Taking.{taking, placed, line_of};
 
+use itoa::Buffer;
 use mmt_base::OutOfMemory;
+use mmt_fields::put_bytes;
 use mmt_io::Port;
 use mmt_recv::{Ended, Receiver, Summary};
 use mmt_stream::{Consumer, Halt};
 use mmt_tune::Config;
-use std::alloc::{AllocError, Global};
+use mmt_words::put_number;
+use std::alloc::Global;
 use std::marker::Model;
 
 /// Writes the records of the media units of a stream, notes what is refused, and notes one line at the end.
 #[derive(Drop)]
 pub struct TakeCommand {
-    alloc: Global,
     // in a box, so that little is moved with each packet
     receiver: Box<Receiver>,
+    // empty until the end, which takes no memory: it has room for the last line
+    line: Vec<u8>,
 }
 
 impl Model for TakeCommand {
+    ghost use Rattle.std.specs.Prelude.{◌≡◌, ◌≤◌, [], vec_capacity};
     ghost use Rattle.mmt_recv.specs.Receiving.{State};
 
     ghost Value = { State };
 
     ghost view = { λ c. c.receiver.value };
+
+    ghost invariant = { λ c. (c.line.items ≡ []) × (120 ≤ vec_capacity c.line) };
 }
 
-// The last line of these numbers.
-fn line(alloc: Global, summary: &Summary) -> Result<String, AllocError>
-    ensures { IfOk result (λ line. string_bytes line ≡ line_of summary.now) }
+// How many bytes the last line has at most.
+const LINE: usize = 120;
+
+// Appends the last line of these numbers.
+#[tactic(auto, using(std::proofs::Common::append_assoc))]
+fn put_line(out: &mut Vec<u8>, summary: &Summary)
+    requires empty { out.old.items ≡ [] }
+    requires room { LINE ≤ vec_capacity out.old }
+    ensures { out.new.items ≡ line_of summary.now }
 {
-    let Summary {
-        units,
-        bytes,
-        peak,
-        ..
-    } = *summary;
-    format!(in alloc; "units {units} bytes {bytes} peak {peak}\n")
+    let mut digits = Buffer::new();
+    put_number(&mut digits, out, b"units ", summary.units);
+    put_number(&mut digits, out, b" bytes ", summary.bytes);
+    put_number(&mut digits, out, b" peak ", summary.peak as u64);
+    put_bytes(out, b"\n");
 }
 
 impl TakeCommand {
-    /// The command at the start of a stream.
+    /// The command at the start of a stream. It takes the room for the last line.
     pub fn new(alloc: Global, config: Config) -> Result<TakeCommand, OutOfMemory>
         requires bound { config.bound ≤ 2 ^ 30 }
         requires base { config.sample_base ≤ 1 }
@@ -53,7 +64,8 @@ impl TakeCommand {
         ensures stands { IfOk result (λ c. Stands c []) }
     {
         let receiver = Box::new(alloc, Receiver::new(alloc, config)?)?;
-        Ok(TakeCommand { alloc, receiver })
+        let line = Vec::with_capacity(alloc, LINE)?;
+        Ok(TakeCommand { receiver, line })
     }
 }
 
@@ -90,16 +102,13 @@ impl<P: Port> Consumer<P> for TakeCommand {
     }
 
     fn finish(self, port: &mut P) -> Result<(), Halt> {
-        let TakeCommand { alloc, receiver } = self;
+        let TakeCommand { receiver, mut line } = self;
         let summary = match Box::into_inner(receiver).finish(port) {
             Ok(summary) => summary,
             Err(_) => return Err(Halt::WriteFault),
         };
-        let line = match line(alloc, &summary) {
-            Ok(line) => line,
-            Err(_) => return Err(Halt::OutOfMemory),
-        };
-        match port.note(line.as_bytes()) {
+        put_line(&mut line, &summary);
+        match port.note(&line) {
             Ok(()) => Ok(()),
             Err(_) => Err(Halt::WriteFault),
         }

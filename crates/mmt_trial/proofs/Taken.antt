@@ -1,5 +1,5 @@
 -- What makes a programme one that can be sent and received, and the numbers of a trial.
-use Rattle.std.proofs.Common.{◌≡◌, ◌≢◌, ℕ, ◌+◌, ◌-◌, ◌^◌, ◌<◌, ◌≤◌, Bool, true, false, not, ◌&&◌, ◌==◌, nat_le, nat_lt, List, [], ◌∷◌, ◌++◌, length, map, min, take, drop, get_or, Option, Some, None, refl, ap, ap₂, sym, ◌∙◌, subst, arith, ⊎_elim}
+use Rattle.std.proofs.Common.{◌≡◌, ◌≢◌, inl, ℕ, ◌+◌, ◌-◌, ◌^◌, ◌<◌, ◌≤◌, Bool, true, false, not, ◌&&◌, ◌==◌, nat_le, nat_lt, List, [], ◌∷◌, ◌++◌, length, map, min, take, drop, get_or, Option, Some, None, refl, ap, ap₂, sym, ◌∙◌, subst, arith, ⊎_elim}
 use Rattle.std.specs.List.{All, AllByRecursion}
 use Rattle.std.proofs.lemmas.Bool.{leb-true, cases_lt, eq-eqb, ne_eqb}
 use Rattle.std.proofs.lemmas.List.{length-drop, length-take}
@@ -86,9 +86,9 @@ hold programme files right whole =
     (λ (le : x.value.length ≤ length (unit_bytes files x)). le)
     (cases_lt (length (unit_bytes files x)) x.value.length)))
 
-pub sendable : (programme : Programme) (files : ℕ → List ℕ) (cast : Cast) → IsRight programme → refusal programme ≡ None → cast ≡ cast_of programme → fault cast ≡ None → AreWhole programme files → IsSendable programme files
+pub sendable : (programme : Programme) (files : ℕ → List ℕ) (cast : Cast) → IsRight programme → refusal programme ≡ None → cast ≡ cast_of programme → fault cast ≡ None → AreWhole programme files → IsSendable programme (cast_of programme) files
 sendable programme files cast right none is admitted whole =
-    record { right = right; cast = none; admitted = subst (λ (c : Cast). fault c ≡ None) is admitted; held = hold programme files right whole }
+    record { right = right; none = none; of = inl refl; admitted = subst (λ (c : Cast). fault c ≡ None) is admitted; held = hold programme files right whole }
 
 -- ---- the receiver
 
@@ -97,15 +97,15 @@ receives programme right = record { flow = rw (ne_eqb programme.flow.port 123 ri
 
 -- ---- the pieces
 
-sent-at : (programme : Programme) (files : ℕ → List ℕ) (n : ℕ) → n < length (cast_of programme).packets → get_or (map spelling (stream programme files)) n [] ≡ spelling (packet_sent programme files n)
+sent-at : (programme : Programme) (files : ℕ → List ℕ) (n : ℕ) → n < length (cast_of programme).packets → get_or (map spelling (stream programme (cast_of programme) files)) n [] ≡ spelling (packet_sent programme (cast_of programme) files n)
 unfolding stream stream_of
 sent-at programme files n l =
-    get-map spelling (map (packet_sent programme files) (numbers 0 (length (cast_of programme).packets))) n (packet_sent programme files n) []
-    (omega (arith, l, length-range (packet_sent programme files) (length (cast_of programme).packets)))
-    ∙ ap spelling (get-range (packet_sent programme files) (length (cast_of programme).packets) n (packet_sent programme files n) l)
+    get-map spelling (map (packet_sent programme (cast_of programme) files) (numbers 0 (length (cast_of programme).packets))) n (packet_sent programme (cast_of programme) files n) []
+    (omega (arith, l, length-range (packet_sent programme (cast_of programme) files) (length (cast_of programme).packets)))
+    ∙ ap spelling (get-range (packet_sent programme (cast_of programme) files) (length (cast_of programme).packets) n (packet_sent programme (cast_of programme) files n) l)
 
 -- the pieces of the whole stream at the places of a delivery are the packets of the delivery
-pub given : (programme : Programme) (files : ℕ → List ℕ) (list : List ℕ) → AreOf (cast_of programme).packets list → AreGiven (map spelling (stream programme files)) list (stream_of programme files list)
+pub given : (programme : Programme) (files : ℕ → List ℕ) (list : List ℕ) → AreOf (cast_of programme).packets list → AreGiven (map spelling (stream programme (cast_of programme) files)) list (stream_of programme (cast_of programme) files list)
 unfolding stream_of
 given programme files [] of = refl
 given programme files (n ∷ list) of = ap₂ (λ x xs. x ∷ xs) (sent-at programme files n of.0) (given programme files list of.1)

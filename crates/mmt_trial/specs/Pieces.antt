@@ -7,6 +7,6 @@ use Rattle.mmt_trial.specs.declared.recording.Span.{Span}
 abbrev pub piece_in : List ℕ → Span → List ℕ
 piece_in bytes span = take (span.to - span.from) (drop span.from bytes)
 
--- spans lie within so many bytes
+-- spans lie within N bytes
 abbrev pub AreWithin : ℕ → List Span → Type 0
 AreWithin total spans = AllByRecursion (λ span. (span.from ≤ span.to) × (span.to ≤ total)) spans

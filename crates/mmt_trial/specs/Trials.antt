@@ -21,7 +21,7 @@ receiver_of p = record { bound = p.params.bound; flow = choice.One p.flow; sampl
 
 -- what that receiver counts of the packets of a delivery
 abbrev pub counts_of : Programme → (ℕ → List ℕ) → List ℕ → Summary
-counts_of p files delivery = summary_of (receiver_of p) (placed_of p files delivery)
+counts_of p files delivery = summary_of (receiver_of p) (placed_of p (cast_of p) files delivery)
 
 -- the numbers of a trial, from how many packets there are, how many units are expected, and what a receiver counts
 abbrev pub put_together : Programme → ℕ → ℕ → ℕ → Summary → Tried
@@ -40,7 +40,7 @@ put_together p sent delivered expected s = record {
 
 -- the numbers of a trial of a delivery: how many packets the cast and the delivery have; what a receiver of the programme counts of the delivery; how many units are expected of it; and the programme's buffer size
 abbrev pub tried : Programme → (ℕ → List ℕ) → List ℕ → Tried
-tried p files delivery = put_together p (length (cast_of p).packets) (length delivery) (length (expected_of p files delivery)) (counts_of p files delivery)
+tried p files delivery = put_together p (length (cast_of p).packets) (length delivery) (length (expected_of p (cast_of p) files delivery)) (counts_of p files delivery)
 
 -- all expected units came out, the buffer held them, and no packet was without room
 pub record KeepsBound (t : Tried) : Type 0 where

@@ -44,7 +44,7 @@ impl Recording {
         }
     }
 
-    /// Puts a piece at the end. After a refusal, for want of memory, the pieces are those that they were.
+    /// Puts a piece at the end. After a refusal, when out of memory, the pieces are those that they were.
     pub fn add(&mut self, piece: &[u8]) -> Result<(), OutOfMemory>
         ensures added { OnOk result (self.new ≡ self.old ++ piece.now ∷ []) }
         ensures refused { OnErr result (self.new ≡ self.old) }
@@ -73,7 +73,7 @@ impl Recording {
     }
 }
 
-/// A port without input on which a stream is recorded. A call fails only for want of memory, and a note always; the counts
+/// A port without input on which a stream is recorded. A call fails only when out of memory, and a note always; the counts
 /// of failed calls stand at their last value.
 impl Port for Recording {
     ghost tells = { λ _. true };

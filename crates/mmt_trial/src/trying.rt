@@ -90,9 +90,11 @@ fn record<H: Shelf>(
     requires right { IsRight programme.now }
     requires none { refusal programme.now ≡ None }
     requires cast { cast.now ≡ cast_of programme.now }
-    ensures sent { IsTrue (H.tells shelf.old) → IfOk result (λ sent. sent ≡ map spelling (stream programme.now (files_on (H.file shelf.old) programme.now))) }
+    ensures sent { IsTrue (H.tells shelf.old) →
+        IfOk result (λ sent. sent ≡ map spelling (stream programme.now cast.now (files_on (H.file shelf.old) programme.now))) }
     ensures whole { IsTrue (H.tells shelf.old) → OnOk result (AreWhole programme.now (files_on (H.file shelf.old) programme.now)) }
-    ensures cause { IfErr result (λ e. TrialEnds programme.now (H.tells shelf.old) (H.file shelf.old) (H.faults shelf.old) (H.faults shelf.new) e) }
+    ensures cause { IfErr result (λ e. TrialEnds programme.now (H.tells shelf.old) (H.file shelf.old)
+        (H.faults shelf.old) (H.faults shelf.new) e) }
     ensures shelf { Stays (H.tells shelf.old) (H.tells shelf.new) (H.file shelf.old) (H.file shelf.new) (H.faults shelf.old)
         (H.faults shelf.new) }
 {
@@ -162,12 +164,14 @@ pub fn trial<H: Shelf>(
     requires of { AreOf cast.now.packets deliveries.now }
     requires few { length deliveries.now < 2 ^ 32 }
     // The numbers, where the shelf tells its files.
-    ensures tried { IsTrue (H.tells shelf.old) → IfOk result (λ t. t ≡ tried programme.now (files_on (H.file shelf.old) programme.now) deliveries.now) }
+    ensures tried { IsTrue (H.tells shelf.old) →
+        IfOk result (λ t. t ≡ tried programme.now (files_on (H.file shelf.old) programme.now) deliveries.now) }
     // Of each near delivery all expected units come out, and the signalled buffer holds them.
     ensures bound { IsTrue (H.tells shelf.old) → IsNear cast.now programme.now.full_every deliveries.now → IfOk result KeepsBound }
     // No file ends before a unit of it does.
     ensures whole { IsTrue (H.tells shelf.old) → OnOk result (AreWhole programme.now (files_on (H.file shelf.old) programme.now)) }
-    ensures cause { IfErr result (λ e. TrialEnds programme.now (H.tells shelf.old) (H.file shelf.old) (H.faults shelf.old) (H.faults shelf.new) e) }
+    ensures cause { IfErr result (λ e. TrialEnds programme.now (H.tells shelf.old) (H.file shelf.old)
+        (H.faults shelf.old) (H.faults shelf.new) e) }
     ensures shelf { Stays (H.tells shelf.old) (H.tells shelf.new) (H.file shelf.old) (H.file shelf.new) (H.faults shelf.old)
         (H.faults shelf.new) }
 {

@@ -1,4 +1,4 @@
-use Rattle.std.proofs.Common.{◌≡◌, ℕ, List, Err, arith, refl, ap, sym, ◌∙◌, subst, length}
+use Rattle.std.proofs.Common.{ℕ, List, Err, arith, refl, ap, sym, ◌∙◌, subst, length}
 use Rattle.mmt_channel.specs.Lists.{IsListText, IsRefusedAt}
 use Rattle.mmt_desk.proofs.Lists.{list-absent, list-few, list-in, list-line, list-long}
 use Rattle.mmt_desk.specs.Lists.{IsListAnswer}

@@ -1,31 +1,18 @@
-use Rattle.std.proofs.Common.{◌≡◌, ℕ, List, refl, ap, sym, ◌∙◌, subst}
-use Rattle.mmt_desk.proofs.Places.{cast-is, made-few, made-of, near-so}
-use Rattle.mmt_desk.specs.Numbers.{made_tried}
+use Rattle.std.proofs.Common.{ℕ, List, ap, ◌∙◌, refl}
+use Rattle.mmt_desk.proofs.WholeFiles.{none-short, tried-is}
 use Rattle.mmt_expect.proofs.Premises.{readable}
-use Rattle.mmt_send.specs.Files.{files_on}
-use Rattle.mmt_trial.specs.Trials.{KeepsBound, tried}
+use Rattle.mmt_io.specs.Shelf.{file_in}
 use Rattle.mmt_desk.proofs.making.numbers.Goals as goal
 
 pub admit-requires : goal.admit-requires
-admit-requires c = readable c.in-Ok.made.programme c.in-Ok-cast_of.cast c.in-Ok.ensures.right c.in-Ok-cast_of.ensures.none c.in-Ok-cast_of.ensures.made
-
-pub trial-requires-clause-of : goal.trial-requires-clause-of
-trial-requires-clause-of c =
-    made-of c.in-Ok-admit.admitted c.in-Ok.made.deliveries c.args.seed
-    (cast-is c.in-Ok.made.programme c.in-Ok-cast_of.cast c.in-Ok-admit.admitted c.in-Ok.ensures.programme c.in-Ok-cast_of.ensures.made c.in-Ok-admit.ensures.admitted) c.in-Ok.ensures.deliveries
-
-pub trial-requires-clause-few : goal.trial-requires-clause-few
-trial-requires-clause-few c =
-    made-few c.in-Ok.made.programme c.in-Ok-cast_of.cast c.in-Ok.made.deliveries c.args.seed c.in-Ok.ensures.programme c.in-Ok.ensures.right c.in-Ok-cast_of.ensures.none c.in-Ok-cast_of.ensures.made c.in-Ok.ensures.deliveries
+admit-requires c = readable c.in-Ok.made.programme c.in-Ok-cast_of_made.cast c.in-Ok.ensures.right c.in-Ok.ensures.none c.in-Ok-cast_of_made.ensures
 
 pub returns-in-Ok-trial-clause-tried : goal.returns-in-Ok-trial-clause-tried
 returns-in-Ok-trial-clause-tried c =
-    c.in-Ok-trial.ensures.tried refl
-    ∙ (λ i. tried (c.in-Ok.ensures.programme i) (files_on (λ (name : List ℕ). c.in-Ok.ensures.files name i) (c.in-Ok.ensures.programme i)) (c.in-Ok.ensures.deliveries i))
+    tried-is c.in-Ok.made.programme c.new-shelf.result c.in-Ok.made.deliveries c.args.seed c.in-Ok-trial.tried c.in-Ok.ensures.programme
+    (λ name. ap (λ (files : List (List ℕ × List ℕ)). file_in files name) c.new-shelf.ensures ∙ c.in-Ok.ensures.files name) c.in-Ok.ensures.deliveries (c.in-Ok-trial.ensures.tried refl)
 
-pub returns-in-Ok-trial-clause-bound : goal.returns-in-Ok-trial-clause-bound
-returns-in-Ok-trial-clause-bound c = λ near.
-    subst KeepsBound (returns-in-Ok-trial-clause-tried c)
-    (c.in-Ok-trial.ensures.bound refl
-    (near-so c.in-Ok.made.programme c.in-Ok-admit.admitted c.in-Ok.made.deliveries c.args.seed c.in-Ok.ensures.programme
-    (cast-is c.in-Ok.made.programme c.in-Ok-cast_of.cast c.in-Ok-admit.admitted c.in-Ok.ensures.programme c.in-Ok-cast_of.ensures.made c.in-Ok-admit.ensures.admitted) c.in-Ok.ensures.deliveries near))
+pub unreachable-requires-in-Err-UnitShort : goal.unreachable-requires-in-Err-UnitShort
+unreachable-requires-in-Err-UnitShort c =
+    none-short c.in-Ok.made.programme c.new-shelf.result c.args.seed c.in-Err-UnitShort.field-0 0 0 c.in-Err-UnitShort.field-0-0 c.in-Err-UnitShort.field-0-1 c.in-Err-UnitShort.field-0-2 c.in-Ok.ensures.programme
+    (λ name. ap (λ (files : List (List ℕ × List ℕ)). file_in files name) c.new-shelf.ensures ∙ c.in-Ok.ensures.files name) c.in-Err-UnitShort.field-0-is c.in-Err-UnitShort.ensures.cause

@@ -1,4 +1,4 @@
-use Rattle.std.proofs.Common.{◌≡◌, ◌<◌, ℕ, List, length, Option, Result, Ok, Err, arith, ap, sym, ◌∙◌, subst}
+use Rattle.std.proofs.Common.{◌≡◌, ◌<◌, ℕ, List, length, Option, Err, arith, ap, sym, ◌∙◌, subst}
 use Rattle.std.specs.List.{AllByRecursion}
 use Rattle.mmt_admit.specs.Faults.{fault_value}
 use Rattle.mmt_cast.specs.Casting.{cast_of}
@@ -17,7 +17,6 @@ use Rattle.mmt_mux.specs.declared.ends.MuxEnd.{MuxEnd}
 use Rattle.mmt_plan.proofs.Fronts.{stays_on}
 use Rattle.mmt_send.specs.Files.{files_on}
 use Rattle.mmt_trial.specs.Trials.{tried}
-use Rattle.mmt_trial.specs.declared.trying.Tried.{Tried}
 use Rattle.mmt_desk.proofs.trying.try_list.Goals as goal
 
 pub admit-requires : goal.admit-requires

@@ -4,7 +4,7 @@ use Rattle.mmt_made.proofs.Few.{packets-few}
 use Rattle.mmt_made.proofs.making.count_of.Goals as goal
 
 pub overflow_cast-count : goal.overflow_cast-count
-overflow_cast-count c = omega (arith, packets-few c.args.programme.now c.in-Ok.cast c.requires c.in-Ok.ensures.none c.in-Ok.ensures.made, c.len-count.ensures)
+overflow_cast-count c = omega (arith, packets-few c.args.programme.now c.in-Ok.cast c.requires.right c.requires.none c.in-Ok.ensures, c.len-count.ensures)
 
 pub returns : goal.returns
-returns c = c.len-count.ensures ∙ ap (λ (cast : Cast). length cast.packets) c.in-Ok.ensures.made
+returns c = c.len-count.ensures ∙ ap (λ (cast : Cast). length cast.packets) c.in-Ok.ensures

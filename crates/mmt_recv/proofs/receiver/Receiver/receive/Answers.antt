@@ -4,6 +4,8 @@ use Rattle.mmt_io.specs.Output.{Put, Puts, PutsPrefix}
 use Rattle.mmt_output.proofs.Putting.{puts_nothing}
 use Rattle.mmt_tune.specs.Tuning.{Placed, heard_of, packets_of}
 use Rattle.mmt_recv.specs.Receiving.{Stands, State}
+use Rattle.mmt_recv.specs.Written.{HasWritten}
+use Rattle.mmt_recv.proofs.Refusing.{wrote_nothing}
 use Rattle.mmt_recv.proofs.Received.{more_heard, more_not_ours, more_refused, not_ours_same, over_headers, over_same, refused_same, stands_heard}
 use Rattle.mmt_recv.proofs.Places.{places_heard, places_not_ours, places_refused}
 use Rattle.mmt_recv.proofs.receiver.Receiver.receive.Goals as goal
@@ -101,3 +103,23 @@ returns-in-Err-clause-places g c = λ ps packet stood fits tlv.
     let o : Stands s ps = rw c.self.view_is stood in
     let p : Placed = record { place = c.args.place; packet = packet } in
     rw (sym c.self.view_is) (places_refused s.config ps p c.in-Refused.at (length c.args.tlv.now) c.in-Refused.why (c.in-Refused.ensures.heard (packets_of ps) packet fits tlv o.heard) c.in-Refused.ensures.lies)
+
+pub returns-in-Packet-clause-written : goal.returns-in-Packet-clause-written
+returns-in-Packet-clause-written g c = λ told ps packet stood fits tlv refused.
+    let r = c.self.inside in
+    let s : State = record { config = r.config; headers = r.hearer; tuned = r.tuned; pool = r.pool; names = r.names; handed = record { units = r.counts.units; bytes = r.counts.bytes }; losses = record { late = r.counts.late; repeat = r.counts.repeat; full = r.counts.full } } in
+    let o : Stands s ps = rw c.self.view_is stood in
+    let p : Placed = record { place = c.args.place; packet = packet } in
+    rw (sym c.self.view_is)
+    (subst (λ x. HasWritten (g.P.Port.history c.args.port.now) (g.P.Port.history c.take_any.new.port) x.written) (more_heard s.config ps p (view c.in-Packet.packet) c.in-Packet.from (c.in-Packet.ensures.heard (packets_of ps) packet fits tlv o.heard))
+    (c.take_any.ensures.written told (heard_of s.config.flow ps) (over_headers s c.hear.new.self (heard_of s.config.flow ps) o.over) refused))
+
+pub returns-in-Err-clause-written : goal.returns-in-Err-clause-written
+returns-in-Err-clause-written g c = λ told ps packet stood fits tlv refused.
+    let r = c.self.inside in
+    let s : State = record { config = r.config; headers = r.hearer; tuned = r.tuned; pool = r.pool; names = r.names; handed = record { units = r.counts.units; bytes = r.counts.bytes }; losses = record { late = r.counts.late; repeat = r.counts.repeat; full = r.counts.full } } in
+    let o : Stands s ps = rw c.self.view_is stood in
+    let p : Placed = record { place = c.args.place; packet = packet } in
+    rw (sym c.self.view_is)
+    (subst (λ x. HasWritten (g.P.Port.history c.args.port.now) (g.P.Port.history c.tell.new.port) x.written) (more_refused s.config ps p c.in-Refused.at c.in-Refused.why (c.in-Refused.ensures.heard (packets_of ps) packet fits tlv o.heard))
+    (wrote_nothing _ _ _ (c.in-Err.ensures.put told)))

@@ -35,7 +35,7 @@ pub returns-in_ok-put_plain-in-Plain-clause-packet : goal.returns-in_ok-put_plai
 returns-in_ok-put_plain-in-Plain-clause-packet g c t =
     let a : Addressing = addressing_of c.args.job.now.programme.now in
     let at : IsAt a c.args.place (Plain c.in-Plain.header) = at-variant a c.args.place c.args.self.now.addresser (Plain c.in-Plain.header) c.in-Plain.is c.requires.ready.at in
-    packet-is c.args.job.now.programme.now c.args.job.now.cast.now (files_on (g.H.Shelf.file c.args.shelf.now) c.args.job.now.programme.now) c.args.place _ c.put_plain.new.made.outer.items c.put_packet.new.out.items c.requires.job.is
+    packet-is c.args.job.now.programme.now c.args.job.now.cast.now (files_on (g.H.Shelf.file c.args.shelf.now) c.args.job.now.programme.now) c.args.place _ c.put_plain.new.made.outer.items c.put_packet.new.out.items
     (at-slice c.args.job.now.cast.now c.as_slice-packets.result.now c.args.place _ c.as_slice-packets.ensures (omega (arith, c.requires.place, ap (λ (xs : List Sent). length xs) c.as_slice-packets.ensures)))
     (alone _ _ _ c.clear.ensures.items (c.in_ok-put_packet-in-Plain.ensures.packet t)) (c.in_ok-put_plain-in-Plain.ensures a c.args.place at)
 
@@ -43,6 +43,6 @@ pub returns-in_ok-put_packet-in-Squeezed-clause-packet : goal.returns-in_ok-put_
 returns-in_ok-put_packet-in-Squeezed-clause-packet g c t =
     let a : Addressing = addressing_of c.args.job.now.programme.now in
     let at : IsAt a c.args.place (Squeezed c.in-Squeezed.squeezer) = at-variant a c.args.place c.args.self.now.addresser (Squeezed c.in-Squeezed.squeezer) c.in-Squeezed.is c.requires.ready.at in
-    begun-is c.args.job.now.programme.now c.args.job.now.cast.now (files_on (g.H.Shelf.file c.args.shelf.now) c.args.job.now.programme.now) c.args.place _ c.begin_squeezed.new.out.items c.put_packet-in-Squeezed.new.out.items c.put_length.new.out.items c.requires.job.is
+    begun-is c.args.job.now.programme.now c.args.job.now.cast.now (files_on (g.H.Shelf.file c.args.shelf.now) c.args.job.now.programme.now) c.args.place _ c.begin_squeezed.new.out.items c.put_packet-in-Squeezed.new.out.items c.put_length.new.out.items
     (at-slice c.args.job.now.cast.now c.as_slice-packets.result.now c.args.place _ c.as_slice-packets.ensures (omega (arith, c.requires.place, ap (λ (xs : List Sent). length xs) c.as_slice-packets.ensures)))
     (c.in_ok-put_packet-in-Squeezed.ensures.packet t) (c.in_ok-begin_squeezed-in-Squeezed.ensures.head a c.args.place at) c.put_length.ensures
