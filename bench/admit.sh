@@ -1,10 +1,12 @@
 #!/bin/bash
 # bench/admit.sh
 # Measures `admit` of mmt_admit over a cast of 1,000,000 packets against one of 100,000: one packet a tick, each
-# with a unit of its own, 1,000 units an MPU, and a table before each MPU. Both are admitted in turn, ten times, in
-# one run of one program, which is proved and built in a temporary folder. Before each call the large cast is read
-# once, so that neither is in the processor's cache for having been admitted last. Prints the least milliseconds of
-# each, and how many times the small cast's time the large one takes: at most 10 is wanted.
+# with a unit of its own, 1,000 units an MPU, and a table before each MPU. At most 10 times the cost is wanted.
+# - Instructions, where valgrind is there: those of one call, as half of what three calls take more than one. They
+#   are the same in each run, whatever else the machine does.
+# - Time: both casts are admitted in turn, ten times, in one run of one program. Before each call the large cast is
+#   read once, so that neither is in the processor's cache for having been admitted last. The least of each counts.
+# The program is proved and built in a temporary folder.
 set -eu
 here=$(cd "$(dirname "$0")/.." && pwd)
 folder=$(mktemp -d "${TMPDIR:-/tmp}/mmt-admit-XXXXXX")
@@ -31,8 +33,8 @@ use mmt_admit::{admit, is_readable};
 use mmt_base::{LongTick, Ntp, OutOfMemory};
 use mmt_model::{Carries, Cast, List, Params, Sent, SentMpu, SentUnit, TableCopy, UnitKey};
 use std::alloc::Global;
-use std::io;
 use std::time::Instant;
+use std::{env, io};
 
 const SMALL: u32 = 100_000;
 
@@ -123,27 +125,51 @@ fn sent(alloc: Global, count: u32) -> Result<Cast, OutOfMemory>
     Ok(cast)
 }
 
+// The nanoseconds that admission of two casts takes, ten times in turn.
+fn time(rt: &HostRuntime, small: &Cast, large: &Cast) -> io::Result<()>
+    requires small { IsReadable small.now }
+    requires large { IsReadable large.now }
+{
+    for _ in 0..10 {
+        if !is_readable(large) {
+            return Ok(());
+        }
+        let start = Instant::now(rt)?;
+        let short = admit(small).is_ok();
+        let less = start.elapsed(rt)?.as_nanos();
+        if !is_readable(large) {
+            return Ok(());
+        }
+        let start = Instant::now(rt)?;
+        let long = admit(large).is_ok();
+        let more = start.elapsed(rt)?.as_nanos();
+        println!(rt; "{less} {more} {short} {long} {} {}", small.packets.len(), large.packets.len())?;
+    }
+    Ok(())
+}
+
 fn main(rt: HostRuntime) -> io::Result<()> {
-    let (Ok(small), Ok(large)) = (sent(rt.alloc(), SMALL), sent(rt.alloc(), LARGE)) else {
+    let mut words = env::args(&rt)?.skip(1);
+    let (Some(size), Some(calls)) = (words.next(), words.next()) else {
+        let (Ok(small), Ok(large)) = (sent(rt.alloc(), SMALL), sent(rt.alloc(), LARGE)) else {
+            return Ok(());
+        };
+        if is_readable(&small) && is_readable(&large) {
+            time(&rt, &small, &large)?;
+        }
         return Ok(());
     };
-    if !is_readable(&small) || !is_readable(&large) {
+    let size = if size.as_str() == "large" { LARGE } else { SMALL };
+    let calls: u32 = if calls.as_str() == "3" { 3 } else { 1 };
+    let Ok(cast) = sent(rt.alloc(), size) else {
         return Ok(());
-    }
-    for _ in 0..10 {
-        if !is_readable(&large) {
-            return Ok(());
+    };
+    if is_readable(&cast) {
+        for _ in 0..calls {
+            if admit(&cast).is_err() {
+                println!(rt; "not admitted")?;
+            }
         }
-        let start = Instant::now(&rt)?;
-        let short = admit(&small).is_ok();
-        let less = start.elapsed(&rt)?.as_nanos();
-        if !is_readable(&large) {
-            return Ok(());
-        }
-        let start = Instant::now(&rt)?;
-        let long = admit(&large).is_ok();
-        let more = start.elapsed(&rt)?.as_nanos();
-        println!(rt; "{less} {more} {short} {long} {} {}", small.packets.len(), large.packets.len())?;
     }
     Ok(())
 }
@@ -158,3 +184,13 @@ out/admit_speed | awk '
         if (NR != 10) { print "no run"; exit 1 }
         printf "milliseconds of a call: %d packets %.2f, %d packets %.2f; the large cast takes %.2f times as long\n", $5, less / 1e6, $6, more / 1e6, more / less
     }'
+if command -v valgrind >/dev/null; then
+    instructions() {
+        valgrind --tool=callgrind --callgrind-out-file=/dev/null out/admit_speed "$1" "$2" 2>&1 | awk '/Collected/ { print $4 }'
+    }
+    small=$((($(instructions small 3) - $(instructions small 1)) / 2))
+    large=$((($(instructions large 3) - $(instructions large 1)) / 2))
+    awk -v a="$small" -v b="$large" 'BEGIN {
+        printf "instructions of a call: %d and %d; the large cast takes %.4f times as many\n", a, b, b / a
+    }'
+fi

@@ -61,16 +61,19 @@ fn take_gives_back_what_was_sent_in_slots(rt: HostRuntime) -> Result<(), Fail> {
     Ok(())
 }
 
-// From which tick on and until which tick each packet of the worked plan may be sent, counted from its start. The delay
-// of 1000 ends before the first unit is due at 32768, and the second at 34955.
+// From which tick on and until which tick each packet of the worked plan may be sent. The delay of 1000 ends before the
+// first unit is due, 32768 ticks after the first packet, and before the second, 34955 ticks after it.
 const JOBS: [(u64, u64); 6] = [
-    (0, 31767),
-    (100, 31767),
-    (200, 31767),
-    (210, 31767),
-    (220, 31767),
-    (300, 33954),
+    (65_536_000, 65_567_767),
+    (65_536_100, 65_567_767),
+    (65_536_200, 65_567_767),
+    (65_536_210, 65_567_767),
+    (65_536_220, 65_567_767),
+    (65_536_300, 65_569_954),
 ];
+
+// The slots from the first packet on, as far as the last deadline.
+const SLOTS: [u64; 3] = [65_536_000, 65_552_000, 65_568_000];
 
 #[test]
 fn an_interval_with_more_packets_than_slots_is_told(rt: HostRuntime) -> Result<(), Fail> {
@@ -89,18 +92,17 @@ fn an_interval_with_more_packets_than_slots_is_told(rt: HostRuntime) -> Result<(
     else {
         return Err(Fail::from("another status"));
     };
-    // Counted again: slots stand from the first packet on as far as the last deadline.
-    let start = 65_536_000;
-    let mut due = 0;
+    // Counted again.
+    let mut due: u32 = 0;
     for (release, deadline) in JOBS {
-        if from <= start + release && start + deadline <= to {
-            due += 1;
+        if from <= release && deadline <= to {
+            due = due.saturating_add(1);
         }
     }
-    let mut room = 0;
-    for slot in [0, 16_000, 32_000] {
-        if from <= start + slot && start + slot <= to {
-            room += 1;
+    let mut room: u32 = 0;
+    for slot in SLOTS {
+        if from <= slot && slot <= to {
+            room = room.saturating_add(1);
         }
     }
     assert_eq!(rt; (jobs, slots), (due, room));
