@@ -22,6 +22,9 @@ use mmt_tune::Config;
 use std::alloc::Global;
 use std::marker::Model;
 
+#[cfg(test)]
+mod inside;
+
 /// Receives a stream, TLV packet by TLV packet: keeps packets within the window and the bound, learns
 /// the times of MPUs from tables, and writes the record of each whole named media unit once the clock
 /// passes its due tick.
