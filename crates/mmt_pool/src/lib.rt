@@ -1,6 +1,7 @@
 //! The pool of kept packets, with their payloads: the receiver's buffer.
 #![tactic(auto)]
 
+mod key;
 mod pool;
 mod queue;
 mod row;

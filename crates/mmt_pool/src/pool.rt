@@ -3,6 +3,7 @@
 ghost use Rattle.std.specs.Prelude.{◌≡◌, ℕ, ◌+◌, ◌<◌, ◌≤◌, ◌^◌, max, [], List, length, map, filter, take, drop, true, false, IfOk, OnOk, OnErr, IfSome, IfNone, option_map, Some};
 ghost use Rattle.std.specs.List.{AllByRecursion, list_any};
 
+use crate::key::Key;
 use crate::queue::{Queue, Queued};
 use crate::types::{NotStored, Span};
 use bytes::Bytes;
@@ -28,7 +29,7 @@ struct Stored {
 #[derive(Drop)]
 pub struct Pool {
     alloc: Global,
-    packets: BTreeMap<u64, Stored>,
+    packets: BTreeMap<Key, Stored>,
     queue: Queue,
     total: u32,
     bound: u32,
@@ -59,10 +60,12 @@ enum Source<'a> {
 }
 
 // The one number that a packet is found by: its packet id times 2^32 plus its number.
-fn key_of(span: Span) -> u64
+fn key_of(span: Span) -> Key
     ensures { result ≡ key_of span }
 {
-    span.packet_id as u64 * (1 << 32) + span.number as u64
+    Key {
+        at: span.packet_id as u64 * (1 << 32) + span.number as u64,
+    }
 }
 
 // The part of a TLV packet from `from` on, in a buffer that the whole packet is copied into once.
