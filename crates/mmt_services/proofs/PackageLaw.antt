@@ -1,6 +1,6 @@
 -- What is read as a package was spelled so, and what is spelled so is read.
 use Rattle.std.proofs.Common.{◌≡◌, ℕ, ◌+◌, ◌≤◌, ◌<◌, List, ◌++◌, length, take, drop, Result, Ok, Err, refl, sym, ap, subst, ◌∙◌, arith, append_assoc}
-use Rattle.std.proofs.lemmas.List.{drop_at, take_drop}
+use Rattle.std.proofs.lemmas.List.{drop_at, take-append-drop}
 use Rattle.mmt_base.specs.declared.refused.Refused.{Refused}
 use Rattle.std.specs.Int.{w8}
 use Rattle.mmt_fields.specs.Reading.{big_endian, Gives}
@@ -22,6 +22,10 @@ itself : {A E : Type 0} (r : Result A E) → Gives (λ x. x) r r
 itself (Ok x) = refl
 itself (Err e) = refl
 
+given : {A E : Type 0} (r read : Result A E) → Gives (λ x. x) r read → r ≡ read
+given (Ok x) read is = sym is
+given (Err e) read is = sym is
+
 table_ok : (at : ℕ) (bytes : List ℕ) (r : Result Found (Refused LocationWhy)) (x : LocationValue × List ℕ) → in_table at bytes r ≡ Ok x → (f : Found) × (r ≡ Ok f) × ((f.0, drop f.1 bytes) ≡ x)
 table_ok at bytes (Ok f) x e = (f, refl, cc)
 table_ok at bytes (Err d) x e = absurd cc
@@ -32,11 +36,12 @@ place_field at = record {
   takes = λ bytes v rest are e.
       let t = table_ok at bytes (location_of bytes) (v, rest) e in
       let f = first_found (λ (x : Found). x) bytes (Ok t.0) are t.1 in
-      let same : bytes ≡ location_bytes t.0.0 ++ drop t.0.1 bytes = sym (take_drop t.0.1 bytes) ∙ ap (λ (front : List ℕ). front ++ drop t.0.1 bytes) f.1 in
+      let same : bytes ≡ location_bytes t.0.0 ++ drop t.0.1 bytes = sym (take-append-drop t.0.1 bytes) ∙ ap (λ (front : List ℕ). front ++ drop t.0.1 bytes) f.1 in
       subst (λ (p : LocationValue × List ℕ). (bytes ≡ location_bytes p.0 ++ p.1) × LocationFits p.0) t.2 (same, f.0);
   again = λ v rest fits.
-      let read = first_only (λ (x : Found). x) (location_bytes v ++ rest) (location_of (location_bytes v ++ rest)) (itself (location_of (location_bytes v ++ rest))) v rest fits refl in
-      rw read refl;
+      let bytes = location_bytes v ++ rest in
+      let read = given (location_of bytes) (read_as v) (first_only (λ (x : Found). x) bytes (location_of bytes) (itself (location_of bytes)) v rest fits refl) in
+      rw read (ap (λ (after : List ℕ). Ok (v, after)) (drop_at (location_bytes v) rest (length (location_bytes v)) refl));
 }
 
 abbrev PackageRest : Type 0

@@ -1,5 +1,5 @@
 -- What is read as a PLT was spelled so, and what is spelled so is read.
-use Rattle.std.proofs.Common.{◌≡◌, ℕ, ◌+◌, ◌%◌, ◌^◌, ◌<◌, eqb, List, ◌++◌, length, get_or, Ok, None, refl, sym, ap, ◌∙◌, arith, eq-eqb}
+use Rattle.std.proofs.Common.{◌≡◌, ℕ, ◌+◌, ◌%◌, ◌^◌, ◌<◌, eqb, List, ◌++◌, length, get_or, Ok, None, refl, sym, ap, ◌∙◌, append_assoc, arith, eq-eqb}
 use Rattle.std.specs.List.{flat_map, All}
 use Rattle.std.specs.Int.{w8, w16}
 use Rattle.std.proofs.lemmas.Bool.{eqb-true}
@@ -14,6 +14,7 @@ use Rattle.mmt_services.specs.Package.{PackageFits, package_bytes}
 use Rattle.mmt_services.specs.PackageReading.{package_at}
 use Rattle.mmt_services.specs.Table.{PltValue, plt_id, plt_inner, plt_spelling, PltFits}
 use Rattle.mmt_services.specs.TableReading.{plt_of}
+use Rattle.mmt_services.specs.TableView.{table_of}
 use Rattle.mmt_services.proofs.PackageLaw.{package_field}
 
 -- a table begins with the id of a PLT
@@ -52,7 +53,7 @@ pub read_back : (v : PltValue) → PltFits v → plt_of (plt_spelling v) ≡ Ok 
 read_back v fits = plt_format.again v tt fits
 
 -- what was read of the packages
-pub packages_are : (n : ℕ) (bytes : List ℕ) → IsBytes bytes → (counted n package_at 5 bytes).stop ≡ None
+packages_are : (n : ℕ) (bytes : List ℕ) → IsBytes bytes → (counted n package_at 5 bytes).stop ≡ None
     → (bytes ≡ flat_map package_bytes (counted n package_at 5 bytes).items ++ (counted n package_at 5 bytes).rest) × ((length (counted n package_at 5 bytes).items ≡ n) × All PackageFits (counted n package_at 5 bytes).items)
 unfolding counted_of
 packages_are n bytes are stop =
@@ -60,10 +61,24 @@ packages_are n bytes are stop =
     let packages = counted_all package_at package_bytes PackageFits package_field n 5 in
     packages.takes bytes c.items c.rest are (rw stop refl)
 
--- what follows the length of a table whose packages are those bytes
-pub inner_is : (v : PltValue) (n : ℕ) (bytes : List ℕ) → length v.packages ≡ n → bytes ≡ flat_map package_bytes v.packages ++ v.rest → plt_inner v ≡ big_endian w8 n ++ bytes
-unfolding plt_inner
-inner_is v n bytes many is = rw (many, is) refl
+-- ---- a table over the bytes that it was read from
 
-pub inner_long : (v : PltValue) (bytes : List ℕ) → bytes ≡ flat_map package_bytes v.packages ++ v.rest → length (plt_inner v) ≡ 1 + length bytes
-inner_long v bytes is = ap length (inner_is v (length v.packages) bytes refl is) ∙ simp (length-append, length_big_endian) (omega arith)
+pub inner_is : (version n : ℕ) (bytes : List ℕ) → IsBytes bytes → (counted n package_at 5 bytes).stop ≡ None → plt_inner (table_of version n bytes) ≡ big_endian w8 n ++ bytes
+unfolding plt_inner
+inner_is version n bytes are stop = let p = packages_are n bytes are stop in ap (λ (k : ℕ). big_endian w8 k ++ (flat_map package_bytes (counted n package_at 5 bytes).items ++ (counted n package_at 5 bytes).rest)) p.1.0 ∙ ap (λ (xs : List ℕ). big_endian w8 n ++ xs) (sym p.0)
+
+pub inner_long : (version n : ℕ) (bytes : List ℕ) → IsBytes bytes → (counted n package_at 5 bytes).stop ≡ None → length (plt_inner (table_of version n bytes)) ≡ 1 + length bytes
+inner_long version n bytes are stop = ap length (inner_is version n bytes are stop) ∙ simp (length-append, length_big_endian) (omega arith)
+
+pub read_fits : (version n : ℕ) (bytes : List ℕ) → version < 2 ^ 8 → n < 2 ^ 8 → 1 + length bytes < 2 ^ 16 → IsBytes bytes → (counted n package_at 5 bytes).stop ≡ None → PltFits (table_of version n bytes)
+read_fits version n bytes version_lt n_lt lt are stop =
+    let p = packages_are n bytes are stop in
+    record { version = version_lt; count = rw p.1.0 n_lt; packages = p.1.1; len = rw (inner_long version n bytes are stop) lt }
+
+-- the fields put one after the other are the table's bytes
+pub appended : (version n : ℕ) (bytes o a b c d e : List ℕ) → IsBytes bytes → (counted n package_at 5 bytes).stop ≡ None
+    → a ≡ o ++ big_endian w8 plt_id → b ≡ a ++ big_endian w8 version → c ≡ b ++ big_endian w16 (1 + length bytes) → d ≡ c ++ big_endian w8 n → e ≡ d ++ bytes
+    → e ≡ o ++ plt_spelling (table_of version n bytes)
+unfolding plt_spelling
+appended version n bytes o a b c d e are stop h1 h2 h3 h4 h5 =
+    rw (inner_long version n bytes are stop, inner_is version n bytes are stop, h5, h4, h3, h2, h1) (simp append_assoc)

@@ -1,9 +1,7 @@
 //! A PLT, over the table that it was read from.
 
-ghost use Rattle.std.specs.Prelude.{◌≡◌, ◌+◌, ◌<◌, ◌^◌, ◌++◌, length};
-ghost use Rattle.std.specs.List.{flat_map, All};
+ghost use Rattle.std.specs.Prelude.{◌≡◌, ◌+◌, ◌<◌, ◌^◌, length, None};
 ghost use Rattle.mmt_lists.specs.Counted.{counted};
-ghost use Rattle.mmt_services.specs.Package.{PackageFits, package_bytes};
 ghost use Rattle.mmt_services.specs.PackageReading.{package_at};
 
 use crate::packages::Packages;
@@ -16,9 +14,8 @@ pub struct Plt<'a> {
     pub(crate) packages: &'a [u8],
     pub(crate) rest: &'a [u8],
     ghost fits: { 1 + length packages.now < 2 ^ 16 },
-    ghost many: { length (counted count package_at 5 packages.now).items ≡ count },
-    ghost each: { All PackageFits (counted count package_at 5 packages.now).items },
-    ghost spelled: { packages.now ≡ flat_map package_bytes (counted count package_at 5 packages.now).items ++ rest.now },
+    ghost whole: { (counted count package_at 5 packages.now).stop ≡ None },
+    ghost after: { rest.now ≡ (counted count package_at 5 packages.now).rest },
 }
 
 impl<'a> Plt<'a> {
