@@ -1,5 +1,5 @@
 -- What is read as a package was spelled so, and what is spelled so is read.
-use Rattle.std.proofs.Common.{◌≡◌, ℕ, ◌+◌, ◌≤◌, ◌<◌, List, ◌++◌, length, take, drop, Result, Ok, Err, refl, sym, ap, subst, ◌∙◌, arith, append_assoc}
+use Rattle.std.proofs.Common.{◌≡◌, ℕ, ◌+◌, List, ◌++◌, length, drop, Result, Ok, Err, refl, sym, ap, subst, ◌∙◌, append_assoc}
 use Rattle.std.proofs.lemmas.List.{drop_at, take-append-drop}
 use Rattle.mmt_base.specs.declared.refused.Refused.{Refused}
 use Rattle.std.specs.Int.{w8}
@@ -10,7 +10,6 @@ use Rattle.mmt_mpt.specs.declared.location.LocationWhy.{LocationWhy}
 use Rattle.mmt_mpt.specs.Location.{LocationValue, LocationFits, location_bytes}
 use Rattle.mmt_mpt.specs.LocationReading.{location_of, read_as}
 use Rattle.mmt_mpt.proofs.LocationLaw.{first_found, first_only}
-use Rattle.mmt_services.specs.declared.plt_why.PltWhy.{PltWhy}
 use Rattle.mmt_services.specs.declared.plt_why.PltWhy.TheVariants as why
 use Rattle.mmt_services.specs.Package.{PackageValue, PackageFits, package_bytes}
 use Rattle.mmt_services.specs.PackageReading.{in_table, place_at, package_at}

@@ -54,7 +54,10 @@ fn bytes_after_the_last_package_are_kept(rt: HostRuntime) -> Result<(), Fail> {
     let mut out = Vec::new(rt.alloc());
     out.push(1)?;
     write_plt(&mut out, &plt)?;
-    assert_eq!(rt; out.as_slice(), b"\x01\x80\x07\x00\x0a\x01\x01a\x05\x02u:xyz".as_slice());
+    assert_eq!(rt;
+        out.as_slice(),
+        b"\x01\x80\x07\x00\x0a\x01\x01a\x05\x02u:xyz".as_slice()
+    );
     Ok(())
 }
 
