@@ -1,4 +1,4 @@
--- What a line tells of signalling, which is this project's own: the messages of a payload, and in a PA message each MPT.
+-- What a line tells of signalling, which is this project's own: the messages of a payload, and in a PA message each MPT and each PLT.
 use Rattle.std.specs.Prelude.{ℕ, List, [], ◌++◌, length, codes, decimal, Result, Ok, Err, ◌==◌, if◌then◌else◌}
 use Rattle.std.specs.List.{flat_map}
 use Rattle.mmt_base.specs.declared.refused.Refused.{Refused}
@@ -14,9 +14,12 @@ use Rattle.mmt_sig.specs.MessageReading.{message_of}
 use Rattle.mmt_mpt.specs.declared.mpt_why.MptWhy.{MptWhy}
 use Rattle.mmt_mpt.specs.Table.{MptValue, mpt_id}
 use Rattle.mmt_mpt.specs.TableReading.{mpt_of}
+use Rattle.mmt_services.specs.Table.{plt_id}
+use Rattle.mmt_services.specs.TableReading.{plt_of}
 use Rattle.mmt_times.specs.NamesOf.{names_of}
 use Rattle.mmt_words.specs.Words.{message_word, mpt_word}
 use Rattle.mmt_list.specs.Names.{configured, named_text}
+use Rattle.mmt_list.specs.Services.{plt_text}
 
 -- a message or an MPT that is refused, by the word alone (this project's own)
 unfoldable pub refused_part : List ℕ → List ℕ
@@ -27,9 +30,9 @@ unfoldable pub mpt_text : Result MptValue (Refused MptWhy) → List ℕ
 mpt_text (Ok v) = codes " [mpt " ++ decimal (length v.assets) ++ flat_map named_text (names_of configured v) ++ codes "]"
 mpt_text (Err e) = refused_part (mpt_word e.why)
 
--- a table of a PA message: nothing where it is no MPT (ISO/IEC 23008-1, PA message)
+-- a table of a PA message: nothing where it is neither an MPT nor a PLT (ISO/IEC 23008-1, PA message)
 unfoldable pub table_text : ListedTable → List ℕ
-table_text t = if t.id == mpt_id then mpt_text (mpt_of t.bytes) else []
+table_text t = if t.id == mpt_id then mpt_text (mpt_of t.bytes) else (if t.id == plt_id then plt_text (plt_of t.bytes) else [])
 
 -- a buffer message: the bound in bytes, the window and the delay in ticks (this project's own message)
 unfoldable pub hrbm_text : Params → List ℕ

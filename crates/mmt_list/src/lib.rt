@@ -6,6 +6,7 @@ mod left;
 mod lister;
 mod names;
 mod sections;
+mod services;
 mod signalling;
 mod texts;
 

@@ -14,6 +14,7 @@ ghost use Rattle.mmt_words.specs.Words.{message_word, mpt_word};
 ghost use Rattle.mmt_list.specs.Signalling.{refused_part, mpt_text, table_text, hrbm_text, other_text, message_text, read_text, messages_text, sig_text};
 
 use crate::names::put_names;
+use crate::services::put_plt;
 use itoa::Buffer;
 use mmt_base::OutOfMemory;
 use mmt_fields::put_bytes;
@@ -121,7 +122,10 @@ fn put_mpt(digits: &mut Buffer, out: &mut Vec<u8>, table: &[u8]) -> Result<(), O
 /// The table id of an MPT.
 const MPT_ID: u8 = 0x20;
 
-// Appends a table where it is an MPT.
+/// The table id of a PLT.
+const PLT_ID: u8 = 0x80;
+
+// Appends a table where it is an MPT or a PLT.
 #[tactic(auto, unfolding(crate::specs::Signalling::table_text))]
 fn put_table(digits: &mut Buffer, out: &mut Vec<u8>, table: &Table<'_>) -> Result<(), OutOfMemory>
     requires short { length table.now.bytes.now < 2 ^ 17 }
@@ -131,12 +135,14 @@ fn put_table(digits: &mut Buffer, out: &mut Vec<u8>, table: &Table<'_>) -> Resul
 {
     if table.id == MPT_ID {
         put_mpt(digits, out, table.bytes)
+    } else if table.id == PLT_ID {
+        put_plt(digits, out, table.bytes)
     } else {
         Ok(())
     }
 }
 
-// Appends the MPTs among the tables of a PA message.
+// Appends the MPTs and the PLTs among the tables of a PA message.
 fn put_tables(digits: &mut Buffer, out: &mut Vec<u8>, pa: &Pa<'_>) -> Result<(), OutOfMemory>
     ensures items { OnOk result (out.new.items ≡ out.old.items ++ flat_map table_text (view_pa pa.now).tables) }
     ensures front { take (vec_len out.old) out.new.items ≡ out.old.items }

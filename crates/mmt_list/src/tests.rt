@@ -405,7 +405,7 @@ fn tables_of_pa_messages(rt: HostRuntime) -> Result<(), Fail> {
             b" payload 10 | sig part 0 messages 1 [pa 0]\n",
         ),
         (
-            b"\x00\x00\x00\x00\x00\x00\x00\x00\x16\x02\x80\x01\x00\x04\x20\x00\x00\x09\x80\x01\x00\x00\x20\x00\x00\x05\xfc\x00\x00\x00\x00",
+            b"\x00\x00\x00\x00\x00\x00\x00\x00\x16\x02\x81\x01\x00\x04\x20\x00\x00\x09\x81\x01\x00\x00\x20\x00\x00\x05\xfc\x00\x00\x00\x00",
             b" payload 31 | sig part 0 messages 1 [pa 2 [mpt 0]]\n",
         ),
         (
@@ -427,6 +427,50 @@ fn tables_of_pa_messages(rt: HostRuntime) -> Result<(), Fail> {
         (
             b"\x00\x00\x00\x00\x00\x00\x00\x00\x1d\x01\x20\x00\x00\x18\x20\x00\x00\x14\xfc\x00\x00\x00\x01\x00\x00\x00\x00\x00\x00\x61\x61\x70\x70\xfe\x01\x06\x00\x00",
             b" payload 38 | sig part 0 messages 1 [pa 1 [refused mpt-location]]\n",
+        ),
+    ];
+    for (payload, end) in table {
+        let found = shown(alloc, &mut lister, 3, SIGNALLING, payload)?;
+        assert!(rt; found.as_slice().ends_with(end));
+    }
+    Ok(())
+}
+
+#[test]
+fn packages_of_the_table_that_lists_services(rt: HostRuntime) -> Result<(), Fail> {
+    let alloc = rt.alloc();
+    let mut lister = Lister::new(alloc)?;
+    shown(alloc, &mut lister, 3, FULL, b"")?;
+    let table: [(&[u8], &[u8]); 2] = [
+        (
+            b"\x00\x00\x00\x00\x00\x00\x00\x00\x14\x01\x80\x00\x00\x0f\x80\x00\x00\x0b\x02\x01\x61\x00\x00\x10\x01\x62\x00\x00\x20",
+            b" payload 29 | sig part 0 messages 1 [pa 1 [plt 2 16 32]]\n",
+        ),
+        (
+            b"\x00\x00\x00\x00\x00\x00\x00\x00\x13\x01\x80\x00\x00\x0e\x80\x00\x00\x0a\x02\x01\x61\x05\x00\x01\x62\x00\x00\x20",
+            b" payload 28 | sig part 0 messages 1 [pa 1 [plt 2 32]]\n",
+        ),
+    ];
+    for (payload, end) in table {
+        let found = shown(alloc, &mut lister, 3, SIGNALLING, payload)?;
+        assert!(rt; found.as_slice().ends_with(end));
+    }
+    Ok(())
+}
+
+#[test]
+fn tables_that_list_services_refused(rt: HostRuntime) -> Result<(), Fail> {
+    let alloc = rt.alloc();
+    let mut lister = Lister::new(alloc)?;
+    shown(alloc, &mut lister, 3, FULL, b"")?;
+    let table: [(&[u8], &[u8]); 2] = [
+        (
+            b"\x00\x00\x00\x00\x00\x00\x00\x00\x09\x01\x80\x00\x00\x04\x80\x00\x00\x00",
+            b" payload 18 | sig part 0 messages 1 [pa 1 [refused plt-short]]\n",
+        ),
+        (
+            b"\x00\x00\x00\x00\x00\x00\x00\x00\x0d\x01\x80\x00\x00\x08\x80\x00\x00\x04\x01\x01\x61\x06",
+            b" payload 22 | sig part 0 messages 1 [pa 1 [refused plt-location]]\n",
         ),
     ];
     for (payload, end) in table {

@@ -1,0 +1,3 @@
+pub mod PackageLaw
+pub mod PackageSteps
+pub mod TableLaw
